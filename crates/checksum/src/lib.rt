@@ -1,0 +1,53 @@
+// The check value that ends a message or a record: four digits of the CRC-16 of all that stands before them.
+use hexadecimal::Hex4;
+ghost use mathlib.Core.Path.{_≡_};
+ghost use Prim.Native.Nat.{_+_, _-_, _≤_};
+ghost use lib.ListN.{length, take, drop};
+ghost use Rattle.octets.specs.Wrote.{Wrote};
+ghost use Rattle.checksum.specs.Checksum.{sumOf, sumDigits, isSum, endsInSum};
+
+// Of which kind the CRC is: of a message, or of a record.
+pub enum Kind {
+    Arc,
+    Modbus,
+}
+
+fn sum_of(kind: Kind, s: &[u8]) -> u16
+    ensures { λ r. ⌜ r ≡ sumOf kind (now (s .entry)) ⌝ }
+{
+    match kind {
+        Kind::Arc => crc::crc_arc(s),
+        Kind::Modbus => crc::crc_modbus(s),
+    }
+}
+
+fn is_sum(h: Hex4, n: u16) -> bool
+    ensures { λ r. ⌜ r ≡ isSum h n ⌝ }
+{
+    match h {
+        Hex4::Number(v) => v == n,
+        Hex4::Bad => false,
+    }
+}
+
+// Whether s ends in the four digits of what stands before them.
+pub fn ends_in_sum(kind: Kind, s: &[u8]) -> bool
+    ensures { λ r. ⌜ r ≡ endsInSum kind (now (s .entry)) ⌝ }
+{
+    if s.len() < 4 {
+        return false;
+    }
+    let n = s.len() - 4;
+    let c = sum_of(kind, &s[..n]);
+    is_sum(hexadecimal::read_hex4(s, n), c)
+}
+
+// Writes the four digits of the bytes from a place up to `to` behind them, and answers the place after the digits.
+pub fn put_sum(kind: Kind, dst: &mut [u8], from: usize, to: usize) -> usize
+    requires { ⌜ (from ≤ to) × (to + 4 ≤ length (now dst)) ⌝ }
+    ensures { λ r. ⌜ Wrote (now (dst .entry)) to (sumDigits kind (take (to - from) (drop from (now (dst .entry))))) (now (dst .exit)) r ⌝ }
+    ensures short { λ r. ⌜ r ≡ to + 4 ⌝ }
+{
+    let c = sum_of(kind, &dst[from..to]);
+    hexadecimal::put_hex4(dst, to, c)
+}

@@ -1,0 +1,4 @@
+pub mod Steps
+pub mod Linear
+pub mod EveryEntry
+pub mod Entries

@@ -1,0 +1,13 @@
+-- `decimals::is_unpadded` meets its contract, a law a return.
+use Rattle.decimals.proofs.NumberLaws.{unpaddedCases}
+use borrow.Author.Needs.{needs}
+use Rattle.decimals.proofs.is_unpadded.Statement.{statement}
+use Rattle.decimals.proofs.is_unpadded.Tie as tie
+
+pub is-unpadded-spec : {M : Type 1} → statement M
+is-unpadded-spec =
+    tie.close
+    (tie.spec
+    (λ c. search unpaddedCases)
+    (λ c. search needs)
+    (λ c. search unpaddedCases))

@@ -1,0 +1,35 @@
+-- Decimal numbers: read, written, and in a range without leading zero.
+use Prim.Native.Nat.{ℕ, zero, suc, _+_, _-_, _*_, _/_, _%_}
+use mathlib.Core.Bool.{Bool, cond, not, _&&_, _||_}
+use mathlib.Core.List.{List, [], _∷_, _++_}
+use lib.Dec.{leb, ltb, eqb}
+use lib.ListN.{length, getD}
+use Rattle.text.specs.Classes.{areAll}
+use Rattle.text.specs.declared.Class.the-variants.{Digit}
+
+-- the number of the decimal digits bs after those of v
+abbrev pub decFrom : ℕ → List ℕ → ℕ
+decFrom v [] = v
+decFrom v (b ∷ bs) = decFrom (v * 10 + (b - 48)) bs
+
+-- the number that decimal digits say
+abbrev pub decimal : List ℕ → ℕ
+decimal s = decFrom 0 s
+
+-- the decimal digits of v without leading zero, of which there are at most k
+unfoldable pub decDigits : ℕ → ℕ → List ℕ
+decDigits zero v = []
+decDigits (suc k) v = cond (ltb v 10) ((48 + v) ∷ []) (decDigits k (v / 10) ++ ((48 + v % 10) ∷ []))
+
+-- a number below 10 ^ 10 as it is written
+unfoldable pub decimalBytes : ℕ → List ℕ
+decimalBytes v = decDigits 10 v
+
+-- no leading zero
+unfoldable pub isUnpadded : List ℕ → Bool
+isUnpadded v = eqb (length v) 1 || not (eqb (getD v 0 0) 48)
+
+-- a decimal number from low to high, of 1 to so many digits, without leading zero
+unfoldable pub isNumber : ℕ → ℕ → ℕ → List ℕ → Bool
+isNumber digits low high v =
+    leb 1 (length v) && (leb (length v) digits && (areAll Digit v && (isUnpadded v && (leb low (decimal v) && leb (decimal v) high))))

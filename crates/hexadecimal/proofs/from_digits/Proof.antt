@@ -1,0 +1,21 @@
+-- `hexadecimal::from_digits` meets its contract, a law a return.
+use Rattle.hexadecimal.proofs.HexLaws.{fromCases}
+use borrow.Author.Needs.{needs}
+use Rattle.hexadecimal.proofs.from_digits.Statement.{statement}
+use Rattle.hexadecimal.proofs.from_digits.Tie as tie
+
+pub from-digits-spec : {M : Type 1} → statement M
+from-digits-spec =
+    tie.close
+    (tie.spec
+    (λ c. search fromCases)
+    (λ c. search fromCases)
+    (λ c. search fromCases)
+    (λ c. search fromCases)
+    (λ c. search needs)
+    (λ c. search needs)
+    (λ c. search needs)
+    (λ c. search needs)
+    (λ c. search needs)
+    (λ c. search needs)
+    (λ c. search fromCases))

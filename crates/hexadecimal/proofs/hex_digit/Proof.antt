@@ -1,0 +1,16 @@
+-- `hexadecimal::hex_digit` meets its contract, a law a return.
+use Rattle.hexadecimal.proofs.HexLaws.{digitCases}
+use borrow.Author.Needs.{needs}
+use Rattle.hexadecimal.proofs.hex_digit.Statement.{statement}
+use Rattle.hexadecimal.proofs.hex_digit.Tie as tie
+
+pub hex-digit-spec : {M : Type 1} → statement M
+hex-digit-spec =
+    tie.close
+    (tie.spec
+    (λ c. search needs)
+    (λ c. search needs)
+    (λ c. search needs)
+    (λ c. search needs)
+    (λ c. search digitCases)
+    (λ c. search digitCases))

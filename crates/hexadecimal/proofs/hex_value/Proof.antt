@@ -1,0 +1,18 @@
+-- `hexadecimal::hex_value` meets its contract, a law a return.
+use Rattle.hexadecimal.proofs.HexLaws.{valueCases}
+use borrow.Author.Needs.{needs}
+use Rattle.hexadecimal.proofs.hex_value.Statement.{statement}
+use Rattle.hexadecimal.proofs.hex_value.Tie as tie
+
+pub hex-value-spec : {M : Type 1} → statement M
+hex-value-spec =
+    tie.close
+    (tie.spec
+    (λ c. search valueCases)
+    (λ c. search needs)
+    (λ c. search valueCases)
+    (λ c. search valueCases)
+    (λ c. search needs)
+    (λ c. search needs)
+    (λ c. search valueCases)
+    (λ c. search valueCases))

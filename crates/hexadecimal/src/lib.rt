@@ -1,0 +1,90 @@
+// A 16-bit number as four hexadecimal digits, capitals only, the high digit first: written, and read.
+ghost use mathlib.Core.Path.{_≡_};
+ghost use Prim.Native.Nat.{_+_, _≤_, _<_};
+ghost use lib.ListN.{length};
+ghost use Rattle.octets.specs.Wrote.{Wrote};
+ghost use Rattle.hexadecimal.specs.Hex.{hexDigit, hexValue, hex4, fromDigits, readHex4};
+
+// What four bytes are read as.
+pub enum Hex4 {
+    Number(u16),
+    Bad,
+}
+
+fn hex_digit(n: u16) -> u8
+    requires { ⌜ n < 16 ⌝ }
+    ensures { λ r. ⌜ r ≡ hexDigit n ⌝ }
+{
+    if n < 10 {
+        48 + (n as u8)
+    } else {
+        55 + (n as u8)
+    }
+}
+
+// The number of a digit; 16 where the byte is no digit.
+fn hex_value(b: u8) -> u16
+    ensures { λ r. ⌜ r ≡ hexValue b ⌝ }
+{
+    if b < 48 {
+        return 16;
+    }
+    if b < 58 {
+        return (b - 48) as u16;
+    }
+    if b < 65 {
+        return 16;
+    }
+    if b < 71 {
+        return (b - 55) as u16;
+    }
+    16
+}
+
+// Writes n as four digits, and answers the place after them.
+pub fn put_hex4(dst: &mut [u8], at: usize, n: u16) -> usize
+    requires { ⌜ at + 4 ≤ length (now dst) ⌝ }
+    ensures { λ r. ⌜ Wrote (now (dst .entry)) at (hex4 n) (now (dst .exit)) r ⌝ }
+    ensures short { λ r. ⌜ r ≡ at + 4 ⌝ }
+{
+    let o1 = octets::put_byte(dst, at, hex_digit(n / 4096));
+    let o2 = octets::put_byte(dst, o1, hex_digit(n / 256 % 16));
+    let o3 = octets::put_byte(dst, o2, hex_digit(n / 16 % 16));
+    octets::put_byte(dst, o3, hex_digit(n % 16))
+}
+
+// The number of four digit values, where each is below 16.
+fn from_digits(a: u16, b: u16, c: u16, d: u16) -> Hex4
+    ensures { λ r. ⌜ r ≡ fromDigits a b c d ⌝ }
+{
+    if 16 <= a {
+        return Hex4::Bad;
+    }
+    if 16 <= b {
+        return Hex4::Bad;
+    }
+    if 16 <= c {
+        return Hex4::Bad;
+    }
+    if 16 <= d {
+        return Hex4::Bad;
+    }
+    Hex4::Number(a * 4096 + b * 256 + c * 16 + d)
+}
+
+// The four digits at a place.
+pub fn read_hex4(s: &[u8], at: usize) -> Hex4
+    ensures { λ r. ⌜ r ≡ readHex4 (now (s .entry)) at ⌝ }
+{
+    if s.len() < 4 {
+        return Hex4::Bad;
+    }
+    if s.len() - 4 < at {
+        return Hex4::Bad;
+    }
+    let a = hex_value(s[at]);
+    let b = hex_value(s[at + 1]);
+    let c = hex_value(s[at + 2]);
+    let d = hex_value(s[at + 3]);
+    from_digits(a, b, c, d)
+}

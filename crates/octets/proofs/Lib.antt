@@ -1,0 +1,5 @@
+pub mod Writes
+pub mod Below
+pub mod Flags
+pub mod StringLaws
+pub mod PieceLaws

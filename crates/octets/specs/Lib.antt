@@ -1,0 +1,3 @@
+pub mod Wrote
+pub mod Strings
+pub mod Pieces

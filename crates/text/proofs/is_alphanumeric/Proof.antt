@@ -1,0 +1,16 @@
+-- `text::is_alphanumeric` meets its contract, a law a return.
+use Rattle.text.proofs.ClassLaws.{alphanumericCases}
+use borrow.Author.Needs.{needs}
+use Rattle.text.proofs.is_alphanumeric.Statement.{statement}
+use Rattle.text.proofs.is_alphanumeric.Tie as tie
+
+pub is-alphanumeric-spec : {M : Type 1} → statement M
+is-alphanumeric-spec =
+    tie.close
+    (tie.spec
+    (λ c κs. search needs)
+    (λ c. search alphanumericCases)
+    (λ c κs. search needs)
+    (λ c. search alphanumericCases)
+    (λ c κs. search needs)
+    (λ c. search alphanumericCases))

@@ -1,0 +1,17 @@
+-- `text::is_identifier` meets its contract, a law a return.
+use Rattle.text.proofs.Identify.{nameCases}
+use borrow.Author.Needs.{needs}
+use Rattle.text.proofs.is_identifier.Statement.{statement}
+use Rattle.text.proofs.is_identifier.Tie as tie
+
+pub is-identifier-spec : {M : Type 1} → statement M
+is-identifier-spec =
+    tie.close
+    (tie.spec
+    (λ c. search nameCases)
+    (λ c. search nameCases)
+    (λ c. search needs)
+    (λ c κs. search needs)
+    (λ c. search nameCases)
+    (λ c κs. search needs)
+    (λ c. search nameCases))
