@@ -1,0 +1,3 @@
+pub mod DateLaws
+pub mod MomentLaws
+pub mod Plain

@@ -1,0 +1,17 @@
+-- `timestamp::is_later` meets its contract, a law a return.
+use Rattle.timestamp.proofs.MomentLaws.{laterCases}
+use borrow.Author.Needs.{needs}
+use Rattle.timestamp.proofs.is_later.Statement.{statement}
+use Rattle.timestamp.proofs.is_later.Tie as tie
+
+pub is-later-spec : {M : Type 1} → statement M
+is-later-spec =
+    tie.close
+    (tie.spec
+    (λ c. search needs)
+    (λ c. search needs)
+    (λ c. search laterCases)
+    (λ c. search needs)
+    (λ c. search needs)
+    (λ c. search laterCases)
+    (λ c. search laterCases))

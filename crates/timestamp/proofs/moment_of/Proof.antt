@@ -1,0 +1,23 @@
+-- `timestamp::moment_of` meets its contract, a law a return.
+use Rattle.timestamp.proofs.MomentLaws.{momentCases}
+use borrow.Author.Needs.{needs}
+use Rattle.timestamp.proofs.moment_of.Statement.{statement}
+use Rattle.timestamp.proofs.moment_of.Tie as tie
+
+pub moment-of-spec : {M : Type 1} → statement M
+moment-of-spec =
+    tie.close
+    (tie.spec
+    (λ c κs. search needs)
+    (λ c. search momentCases)
+    (λ c κs. search needs)
+    (λ c. search momentCases)
+    (λ c κs. search needs)
+    (λ c κs. search needs)
+    (λ c κs. search needs)
+    (λ c. search momentCases)
+    (λ c κs. search needs)
+    (λ c. search momentCases)
+    (λ c. search needs)
+    (λ c. search needs)
+    (λ c. search momentCases))

@@ -1,0 +1,23 @@
+-- `timestamp::read_timestamp` meets its contract, a law a return.
+use Rattle.timestamp.proofs.MomentLaws.{stampCases}
+use borrow.Author.Needs.{needs}
+use Rattle.timestamp.proofs.read_timestamp.Statement.{statement}
+use Rattle.timestamp.proofs.read_timestamp.Tie as tie
+
+pub read-timestamp-spec : {M : Type 1} → statement M
+read-timestamp-spec =
+    tie.close
+    (tie.spec
+    (λ c. search stampCases)
+    (λ c. search needs)
+    (λ c. search stampCases)
+    (λ c. search needs)
+    (λ c. search stampCases)
+    (λ c. search needs)
+    (λ c. search needs)
+    (λ c. search needs)
+    (λ c. search needs)
+    (λ c. search needs)
+    (λ c. search needs)
+    (λ c κs. search needs)
+    (λ c. search stampCases))
