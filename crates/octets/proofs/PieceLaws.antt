@@ -145,3 +145,16 @@ pub pieces-cons : (d : ℕ) (p u : List ℕ) → allOf (isNot d) p ≡ true → 
 pieces-cons d [] u h = rw (eq-eqb d d refl)
 pieces-cons d (b ∷ bs) u h =
     rw (not-false (eqb b d) (and-first (isNot d b) (allOf (isNot d) bs) h), pieces-cons d bs u (and-second (isNot d b) (allOf (isNot d) bs) h))
+
+-- and the list is ended where what follows it is
+ended-after : (d b : ℕ) (u : List ℕ) → eqb b d ≡ true → isEnded d (b ∷ u) ≡ isEnded d u
+ended-after d b [] e = e
+ended-after d b (c ∷ cs) e = refl
+
+ended-skip : (d b c : ℕ) (p u : List ℕ) → isEnded d (b ∷ (p ++ (c ∷ u))) ≡ isEnded d (p ++ (c ∷ u))
+ended-skip d b c [] u = refl
+ended-skip d b c (x ∷ xs) u = refl
+
+pub ended-cons : (d : ℕ) (p u : List ℕ) → isEnded d (p ++ (d ∷ u)) ≡ isEnded d u
+ended-cons d [] u = ended-after d d u (eq-eqb d d refl)
+ended-cons d (b ∷ bs) u = ended-skip d b d bs u ∙ ended-cons d bs u

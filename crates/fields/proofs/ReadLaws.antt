@@ -1,0 +1,192 @@
+-- The cases of the readers and writers, each with what the code knows where it answers as premises.
+use mathlib.Core.Path.{_≡_, refl, sym, ap, _∙_}
+use mathlib.Core.Bool.{Bool, true, false, cond, not}
+use mathlib.Core.List.{List, [], _∷_, _++_, map}
+use mathlib.Core.Logic.{_⊎_, inl, inr, ⊎-elim}
+use Prim.Native.Nat.{ℕ, zero, suc, _+_, _-_, _%_, _^_, _≤_, _<_}
+use native.Mathlib.Omega.{arith}
+use native.Mathlib.Nat.{sub-zero, zero-sub, suc-sub-suc}
+use lib.ListN.{length, getD, take, drop, length-drop, drop-of-length-le}
+use lib.Seq.{drop-cons, drop-drop, take-nil}
+use native.Mathlib.Numerals.{add-one}
+use borrow.Author.Tests.{eq-eqb, ne-eqb, not-true, not-false}
+use denote.Enum.Declared.{tagOf}
+use Rattle.octets.specs.Wrote.{Wrote}
+use Rattle.octets.specs.Strings.{isNot, run}
+use Rattle.octets.specs.Pieces.{pieces, isEnded}
+use Rattle.octets.proofs.Below.{below-or}
+use Rattle.octets.proofs.Writes.{then}
+use Rattle.octets.proofs.PieceLaws.{no-piece, next-piece, not-ended, next-ended}
+use Rattle.text.specs.Classes.{areAll}
+use Rattle.text.specs.declared.Class.the-variants.{Text, Hexadecimal}
+use Rattle.decimals.specs.Decimals.{decimal, decimalBytes, isNumber}
+use Rattle.decimals.proofs.NumberLaws.{number-short, number-most}
+use Rattle.timestamp.specs.Timestamps.{dateTimeOf, isMoment, isDateTime}
+use Rattle.timestamp.specs.declared.Moment as timestamp
+use Rattle.fields.specs.Values.{Value, number, string, date, octets, bad, isOctets, provided, typed, valueOf, valuesOf, first, valueAt, after, nextAt, contentBytes, fieldBytes}
+use Rattle.fields.specs.Bounds.{meant, Within, numberOf, placeAfter}
+use Rattle.fields.specs.declared.Field.{Field}
+use Rattle.fields.specs.declared.Field.the-variants as code
+use Rattle.fields.proofs.Field.{the-type}
+
+-- is_octets
+module _ (v : List ℕ) where
+  pub odd-length : (length v % 2 ≡ 0 → ⊥) → false ≡ isOctets v
+  unfolding isOctets
+  odd-length o = rw (ne-eqb (length v % 2) 0 o)
+
+  pub even-length : length v % 2 ≡ 0 → (r : Bool) → r ≡ areAll Hexadecimal v → r ≡ isOctets v
+  unfolding isOctets
+  even-length e r p = rw (e, p)
+
+-- is_date_time
+pub date-judged : (v : List ℕ) (m : timestamp.Moment) → m ≡ dateTimeOf v → (r : Bool) → r ≡ isMoment m → r ≡ isDateTime v
+unfolding isDateTime
+date-judged v m p r q = rw (q, p)
+
+-- number_of
+module _ (v : List ℕ) (t : Bool) (p : t ≡ isNumber 10 0 2147483647 v) where
+  pub no-number : not t ≡ true → code.Bad ≡ numberOf v
+  unfolding numberOf
+  no-number o = rw (← p, not-true t o)
+
+  pub a-number : not t ≡ false → (n : ℕ) → n ≡ decimal v → code.Number n ≡ numberOf v
+  unfolding numberOf
+  a-number o n e = rw (e, ← p, not-false t o)
+
+  module _ (o : not t ≡ false) where
+    pub number-room : length v ≤ 10
+    number-room = number-short 10 0 2147483647 v (sym p ∙ not-false t o)
+
+    pub number-small : (n : ℕ) → n ≡ decimal v → n < 2 ^ 32
+    number-small n e = omega (arith, number-most 10 0 2147483647 v (sym p ∙ not-false t o))
+
+number-meant : (s v : List ℕ) (t : Bool) → meant s (cond t (code.Number (decimal v)) code.Bad) ≡ provided t (number (decimal v))
+number-meant s v true = refl
+number-meant s v false = refl
+
+number-inside : (n : ℕ) (v : List ℕ) (t : Bool) → Within n (cond t (code.Number (decimal v)) code.Bad)
+number-inside n v true = tt
+number-inside n v false = tt
+
+-- field_of: k is the type, v the content
+module _ (s : List ℕ) (k start end : ℕ) where
+  abbrev v : List ℕ
+  v = take (end - start) (drop start s)
+
+  pub of-number : k ≡ 78 → (r : Field) → r ≡ numberOf v → meant s r ≡ typed k v
+  unfolding typed numberOf
+  of-number e r p = rw (e, p) (number-meant s v (isNumber 10 0 2147483647 v))
+
+  pub number-within : (n : ℕ) (r : Field) → r ≡ numberOf v → Within n r
+  unfolding numberOf
+  number-within n r p = rw p (number-inside n v (isNumber 10 0 2147483647 v))
+
+  module _ (t : Bool) where
+    module _ (e : k ≡ 80) (p : t ≡ areAll Text v) where
+      pub of-string : t ≡ true → meant s (code.Text start end) ≡ typed k v
+      unfolding typed
+      of-string q = rw (e, ← p, q)
+
+      pub no-string : t ≡ false → meant s code.Bad ≡ typed k v
+      unfolding typed
+      no-string q = rw (e, ← p, q)
+
+    module _ (e : k ≡ 68) (p : t ≡ isDateTime v) where
+      pub of-date : t ≡ true → meant s (code.Date start end) ≡ typed k v
+      unfolding typed
+      of-date q = rw (e, ← p, q)
+
+      pub no-date : t ≡ false → meant s code.Bad ≡ typed k v
+      unfolding typed
+      no-date q = rw (e, ← p, q)
+
+    module _ (e : k ≡ 72) (p : t ≡ isOctets v) where
+      pub of-octets : t ≡ true → meant s (code.Octets start end) ≡ typed k v
+      unfolding typed
+      of-octets q = rw (e, ← p, q)
+
+      pub no-octets : t ≡ false → meant s code.Bad ≡ typed k v
+      unfolding typed
+      no-octets q = rw (e, ← p, q)
+
+  pub no-type : (k ≡ 78 → ⊥) → (k ≡ 80 → ⊥) → (k ≡ 68 → ⊥) → (k ≡ 72 → ⊥) → meant s code.Bad ≡ typed k v
+  unfolding typed
+  no-type a b c d = rw (ne-eqb k 78 a, ne-eqb k 80 b, ne-eqb k 68 c, ne-eqb k 72 d)
+
+pub ruleset fieldCases = (of-string, no-string, of-date, no-date, of-octets, no-octets, no-type)
+
+-- next_after
+pub after-field : (f : Field) (at e : ℕ) → (tagOf the-type f ≡ 0) ⊎ ((tagOf the-type f ≡ 1) ⊎ ((tagOf the-type f ≡ 2) ⊎ (tagOf the-type f ≡ 3))) → e + 1 ≡ placeAfter f at e
+after-field (code.Number n) at e k = refl
+after-field (code.Text a b) at e k = refl
+after-field (code.Date a b) at e k = refl
+after-field (code.Octets a b) at e k = refl
+after-field code.Bad at e k = absurd (⊎-elim (λ (p : 4 ≡ 0). omega arith) (λ l. ⊎-elim (λ (p : 4 ≡ 1). omega arith) (λ m. ⊎-elim (λ (p : 4 ≡ 2). omega arith) (λ (p : 4 ≡ 3). omega arith) m) l) k)
+
+-- the place after a field is that of its value
+after-meant : (s : List ℕ) (f : Field) (at e : ℕ) → placeAfter f at e ≡ after (meant s f) at e
+after-meant s (code.Number n) at e = refl
+after-meant s (code.Text a b) at e = refl
+after-meant s (code.Date a b) at e = refl
+after-meant s (code.Octets a b) at e = refl
+after-meant s code.Bad at e = refl
+
+stays : (s : List ℕ) (at : ℕ) → bad ≡ valueAt s at → at ≡ nextAt s at
+unfolding nextAt
+stays s at e = rw (← e)
+
+-- the fields from a place on, by the piece that ends at e
+module _ (s : List ℕ) (at : ℕ) where
+  pub none-left : length s ≤ at → bad ≡ valueAt s at
+  unfolding valueAt valuesOf
+  none-left h = rw (drop-of-length-le s {i = at} h)
+
+  pub none-next : length s ≤ at → at ≡ nextAt s at
+  none-next h = stays s at (none-left h)
+
+  module _ (e : ℕ) (p : e ≡ at + run (isNot 126) (drop at s)) where
+    pub not-closed : at < length s → length s ≤ e → bad ≡ valueAt s at
+    unfolding valueAt valuesOf
+    not-closed l h = rw (no-piece 126 s at e p (omega arith) h, not-ended 126 s at e p l h)
+
+    pub open-next : at < length s → length s ≤ e → at ≡ nextAt s at
+    open-next l h = stays s at (not-closed l h)
+
+    module _ (h : e < length s) where
+      pub values-here : valuesOf (drop at s) ≡ valueOf (take (e - at) (drop at s)) ∷ valuesOf (drop (e + 1) s)
+      unfolding valuesOf
+      values-here = rw (next-piece 126 s at e p h, next-ended 126 s at e p h)
+
+      value-here : valueAt s at ≡ valueOf (take (e - at) (drop at s))
+      unfolding valueAt
+      value-here = ap first values-here
+
+      pub empty-field : e ≡ at → bad ≡ valueAt s at
+      empty-field q = let z : e - at ≡ 0 = omega arith in sym (value-here ∙ rw z)
+
+      pub empty-next : e ≡ at → at ≡ nextAt s at
+      empty-next q = stays s at (empty-field q)
+
+      -- the type of a field is its first byte
+      module _ (o : e ≡ at → ⊥) where
+        pub content-room : at + 1 ≤ e
+        content-room = ⊎-elim (λ (l : at < e). let m : at + 1 ≤ e = omega arith in m) (λ (l : e ≤ at). absurd (o (omega arith))) (below-or at e)
+
+        parted : take (e - at) (drop at s) ≡ getD s at 0 ∷ take (e - (at + 1)) (drop (at + 1) s)
+        parted =
+            let z : e - at ≡ suc (e - (at + 1)) = omega (arith, content-room) in
+            rw (drop-cons s at 0 (omega arith), z, add-one)
+
+        module _ (r : Field) (q : meant s r ≡ typed (getD s at 0) (take (e - (at + 1)) (drop (at + 1) s))) where
+          pub field-here : meant s r ≡ valueAt s at
+          field-here = q ∙ ap valueOf (sym parted) ∙ sym value-here
+
+          pub next-here : (n : ℕ) → n ≡ placeAfter r at e → n ≡ nextAt s at
+          unfolding nextAt
+          next-here n k = k ∙ after-meant s r at e ∙ ap (λ (v : Value). after v at e) field-here ∙ ap (after (valueAt s at) at) p
+
+-- put_content, put_number
+pub content-written : {d e f g v : List ℕ} {a b c r k : ℕ} → Wrote d a (k ∷ []) e b → Wrote e b v f c → Wrote f c (126 ∷ []) g r → Wrote d a (contentBytes k v) g r
+unfolding contentBytes
+content-written u v w = then u (then v w)

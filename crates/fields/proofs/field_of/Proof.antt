@@ -1,0 +1,25 @@
+-- `fields::field_of` meets its contract, a law a return.
+use Rattle.fields.proofs.ReadLaws.{fieldCases, of-number, number-within}
+use borrow.Author.Needs.{needs}
+use Rattle.fields.proofs.field_of.Statement.{statement}
+use Rattle.fields.proofs.field_of.Tie as tie
+
+pub field-of-spec : {M : Type 1} → statement M
+field-of-spec =
+    tie.close
+    (tie.spec
+    (λ c. search needs)
+    (λ c. search needs)
+    (λ c. search needs)
+    (λ c κs. search needs)
+    (λ c. (search of-number, search number-within))
+    (λ c κs. search needs)
+    (λ c. (search fieldCases, search needs))
+    (λ c. (search fieldCases, tt))
+    (λ c κs. search needs)
+    (λ c. (search fieldCases, search needs))
+    (λ c. (search fieldCases, tt))
+    (λ c κs. search needs)
+    (λ c. (search fieldCases, search needs))
+    (λ c. (search fieldCases, tt))
+    (λ c. (search fieldCases, tt)))

@@ -1,0 +1,169 @@
+// PTVD fields (001 clause 5.4, Table 6, as document 01 narrows them): read at a place of a payload, and written.
+use text::Class;
+ghost use mathlib.Core.Path.{_≡_};
+ghost use Prim.Native.Nat.{_+_, _-_, _^_, _≤_, _<_};
+ghost use lib.ListN.{length, take, drop};
+ghost use Rattle.octets.specs.Wrote.{Wrote};
+ghost use Rattle.fields.specs.Values.{number, string, date, octets, isOctets, typed, valueAt, nextAt, fieldBytes, contentBytes};
+ghost use Rattle.fields.specs.Bounds.{meant, Within, numberOf, placeAfter};
+ghost use Rattle.timestamp.specs.Timestamps.{isDateTime};
+
+// A field that was read: a number by its value, a string, date or hex octets by the bounds of its content in the payload; or none.
+pub enum Field {
+    Number(u32),
+    Text { start: usize, end: usize },
+    Date { start: usize, end: usize },
+    Octets { start: usize, end: usize },
+    Bad,
+}
+
+// A field, and the place after it; where there is none, the place is where it was.
+pub struct Read {
+    pub field: Field,
+    pub next: usize,
+}
+
+fn is_octets(v: &[u8]) -> bool
+    ensures { λ r. ⌜ r ≡ isOctets (now (v .entry)) ⌝ }
+{
+    if v.len() % 2 != 0 {
+        return false;
+    }
+    text::are_all(Class::Hexadecimal, v)
+}
+
+fn is_date_time(v: &[u8]) -> bool
+    ensures { λ r. ⌜ r ≡ isDateTime (now (v .entry)) ⌝ }
+{
+    timestamp::is_moment(timestamp::read_date_time(v))
+}
+
+fn number_of(v: &[u8]) -> Field
+    ensures { λ r. ⌜ r ≡ numberOf (now (v .entry)) ⌝ }
+{
+    if !decimals::is_number(10, 0, 2147483647, v) {
+        return Field::Bad;
+    }
+    Field::Number(decimals::decimal(v) as u32)
+}
+
+// The field of a type whose content stands from start to end.
+fn field_of(kind: u8, s: &[u8], start: usize, end: usize) -> Field
+    requires { ⌜ (start ≤ end) × (end ≤ length (now s)) ⌝ }
+    ensures { λ r. ⌜ meant (now (s .entry)) r ≡ typed kind (take (end - start) (drop start (now (s .entry)))) ⌝ }
+    ensures within { λ r. ⌜ Within (length (now (s .entry))) r ⌝ }
+{
+    let v = &s[start..end];
+    if kind == 78 {
+        return number_of(v);
+    }
+    if kind == 80 {
+        if text::are_all(Class::Text, v) {
+            return Field::Text { start, end };
+        }
+        return Field::Bad;
+    }
+    if kind == 68 {
+        if is_date_time(v) {
+            return Field::Date { start, end };
+        }
+        return Field::Bad;
+    }
+    if kind == 72 {
+        if is_octets(v) {
+            return Field::Octets { start, end };
+        }
+    }
+    Field::Bad
+}
+
+// The field at a place, and the place after it.
+pub fn read_field(s: &[u8], at: usize) -> Read
+    ensures { λ r. ⌜ meant (now (s .entry)) (r .field) ≡ valueAt (now (s .entry)) at ⌝ }
+    ensures within { λ r. ⌜ Within (length (now (s .entry))) (r .field) ⌝ }
+    ensures next { λ r. ⌜ r .next ≡ nextAt (now (s .entry)) at ⌝ }
+{
+    if s.len() <= at {
+        return Read {
+            field: Field::Bad,
+            next: at,
+        };
+    }
+    let end = octets::piece_end(s, at, 126);
+    if s.len() <= end {
+        return Read {
+            field: Field::Bad,
+            next: at,
+        };
+    }
+    if end == at {
+        return Read {
+            field: Field::Bad,
+            next: at,
+        };
+    }
+    let field = field_of(s[at], s, at + 1, end);
+    Read {
+        field,
+        next: next_after(field, at, end),
+    }
+}
+
+fn next_after(f: Field, at: usize, end: usize) -> usize
+    requires { ⌜ end + 1 < 2 ^ 64 ⌝ }
+    ensures { λ r. ⌜ r ≡ placeAfter f at end ⌝ }
+{
+    if let Field::Bad = f {
+        return at;
+    }
+    end + 1
+}
+
+// Writes a field of a type with its content, and answers the place after it.
+fn put_content(dst: &mut [u8], at: usize, kind: u8, v: &[u8]) -> usize
+    requires { ⌜ at + length (now v) + 2 ≤ length (now dst) ⌝ }
+    ensures { λ r. ⌜ Wrote (now (dst .entry)) at (contentBytes kind (now (v .entry))) (now (dst .exit)) r ⌝ }
+    ensures short { λ r. ⌜ r ≡ at + length (now (v .entry)) + 2 ⌝ }
+{
+    let a = octets::put_byte(dst, at, kind);
+    let b = octets::put(dst, a, v);
+    octets::put_byte(dst, b, 126)
+}
+
+// Writes a number, and answers the place after it.
+pub fn put_number(dst: &mut [u8], at: usize, v: u32) -> usize
+    requires { ⌜ at + 12 ≤ length (now dst) ⌝ }
+    ensures { λ r. ⌜ Wrote (now (dst .entry)) at (fieldBytes (number v)) (now (dst .exit)) r ⌝ }
+    ensures short { λ r. ⌜ r ≤ at + 12 ⌝ }
+{
+    let a = octets::put_byte(dst, at, 78);
+    let b = decimals::put_decimal(dst, a, v);
+    octets::put_byte(dst, b, 126)
+}
+
+// Writes a string, and answers the place after it.
+pub fn put_string(dst: &mut [u8], at: usize, v: &[u8]) -> usize
+    requires { ⌜ at + length (now v) + 2 ≤ length (now dst) ⌝ }
+    ensures { λ r. ⌜ Wrote (now (dst .entry)) at (fieldBytes (string (now (v .entry)))) (now (dst .exit)) r ⌝ }
+    ensures short { λ r. ⌜ r ≡ at + length (now (v .entry)) + 2 ⌝ }
+{
+    put_content(dst, at, 80, v)
+}
+
+// Writes a date of fourteen digits, and answers the place after it.
+pub fn put_date(dst: &mut [u8], at: usize, v: &[u8]) -> usize
+    requires { ⌜ at + length (now v) + 2 ≤ length (now dst) ⌝ }
+    ensures { λ r. ⌜ Wrote (now (dst .entry)) at (fieldBytes (date (now (v .entry)))) (now (dst .exit)) r ⌝ }
+    ensures short { λ r. ⌜ r ≡ at + length (now (v .entry)) + 2 ⌝ }
+{
+    put_content(dst, at, 68, v)
+}
+
+// Writes hex octets by their digits, and answers the place after them.
+pub fn put_octets(dst: &mut [u8], at: usize, v: &[u8]) -> usize
+    requires { ⌜ at + length (now v) + 2 ≤ length (now dst) ⌝ }
+    ensures { λ r. ⌜ Wrote (now (dst .entry)) at (fieldBytes (octets (now (v .entry)))) (now (dst .exit)) r ⌝ }
+    ensures short { λ r. ⌜ r ≡ at + length (now (v .entry)) + 2 ⌝ }
+{
+    put_content(dst, at, 72, v)
+}
