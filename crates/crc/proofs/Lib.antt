@@ -2,3 +2,4 @@ pub mod Steps
 pub mod Linear
 pub mod EveryEntry
 pub mod Entries
+pub mod Bound

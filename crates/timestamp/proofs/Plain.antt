@@ -84,9 +84,13 @@ module _ (v : List ℕ) (e : isDateTime v ≡ true) where
   date-length = date-parts .0
 
   -- a PTVD date is all digits, so it holds no delimiter d
-  pub date-plain : (d : ℕ) → isOf Digit d ≡ false → allOf (isNot d) v ≡ true
-  date-plain d p =
+  pub date-digits : areAll Digit v ≡ true
+  unfolding areAll
+  date-digits =
       let g = of-digits (take 8 v) (take 6 (drop 8 v)) (date-parts .1) in
       let n : length (drop 8 v) ≡ 6 = length-drop 8 v ∙ omega (arith, date-parts .0) in
       let w : take 6 (drop 8 v) ≡ drop 8 v = take-all 6 (drop 8 v) (omega arith) in
-      all-parts (isNot d) 8 v (class-plain Digit d (take 8 v) p (g .0)) (rw (← w) (class-plain Digit d (take 6 (drop 8 v)) p (g .1)))
+      all-parts (isOf Digit) 8 v (g .0) (rw (← w) (g .1))
+
+  pub date-plain : (d : ℕ) → isOf Digit d ≡ false → allOf (isNot d) v ≡ true
+  date-plain d p = class-plain Digit d v p date-digits

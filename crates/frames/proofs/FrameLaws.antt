@@ -1,0 +1,93 @@
+-- The cases of the definitions, each with what the code knows where it answers as premises.
+use mathlib.Core.Path.{_≡_, refl, sym, ap, _∙_}
+use mathlib.Core.Bool.{Bool, true, false, _&&_}
+use mathlib.Core.List.{List, [], _∷_, _++_}
+use Prim.Native.Nat.{ℕ, zero, suc, _+_, _-_, _≤_, _<_}
+use native.Mathlib.Nat.{sub-zero, zero-sub, suc-sub-suc, zero-add}
+use native.Mathlib.Omega.{arith}
+use lib.Dec.{eqb}
+use lib.ListN.{length, take, drop, drop-of-length-le}
+use lib.Seq.{take-take, take-nil, take-all, length-take-le}
+use borrow.Author.Tests.{lt-leb, le-leb}
+use Rattle.octets.specs.Wrote.{Wrote}
+use Rattle.octets.specs.Strings.{isNot, run, sameBytes}
+use Rattle.octets.proofs.Writes.{then}
+use Rattle.checksum.specs.Checksum.{sumDigits, endsInSum}
+use Rattle.checksum.specs.declared.Kind.the-variants.{Arc}
+use Rattle.frames.specs.Frames.{endsInReturn, isWhole, isChecked, textOf, headerOf, payloadOf, ending}
+use Rattle.frames.specs.Commands.{requestHeader, named, others, commandOf, responseHeader, headBytes}
+use Rattle.frames.specs.declared.commands.Command.{Command}
+use Rattle.frames.specs.declared.commands.Command.the-variants.{RS, KC, KR, KL, KF, KX, KD, GA, GL, KQ, Unknown}
+
+-- is_whole
+module _ (s : List ℕ) where
+  pub too-short : length s < 10 → false ≡ isWhole s
+  unfolding isWhole
+  too-short h = rw (lt-leb 10 (length s) h)
+
+  pub too-long : 10 ≤ length s → 1024 < length s → false ≡ isWhole s
+  unfolding isWhole
+  too-long h l = rw (le-leb 10 (length s) h, lt-leb (length s) 1024 l)
+
+  pub at-return : 10 ≤ length s → length s ≤ 1024 → (e : ℕ) → e ≡ 0 + run (isNot 13) (drop 0 s) → eqb e (length s - 1) ≡ isWhole s
+  unfolding isWhole endsInReturn
+  at-return h l e p = rw (le-leb 10 (length s) h, le-leb (length s) 1024 l, p, zero-add)
+
+-- is_checked
+module _ (s : List ℕ) where
+  pub none-checked : length s < 1 → false ≡ isChecked s
+  unfolding isChecked
+  none-checked h = rw (lt-leb 1 (length s) h)
+
+  pub checked : 1 ≤ length s → (r : Bool) → r ≡ endsInSum Arc (take (length s - 1) s) → r ≡ isChecked s
+  unfolding isChecked
+  checked h r p = rw (le-leb 1 (length s) h, p)
+
+drop-take : (m n : ℕ) (l : List ℕ) → drop m (take n l) ≡ take (n - m) (drop m l)
+drop-take zero n l = ap (λ (k : ℕ). take k l) (sym (sub-zero n))
+drop-take (suc m) zero l = ap (λ (k : ℕ). take k (drop (suc m) l)) (sym (zero-sub (suc m)))
+drop-take (suc m) (suc n) [] = sym (take-nil (suc n - suc m))
+drop-take (suc m) (suc n) (x ∷ xs) = rw suc-sub-suc (drop-take m n xs)
+
+-- header, payload: n is where the text ends
+module _ (s : List ℕ) (n : ℕ) (p : n ≡ length s - 5) where
+  pub header-short : n < 5 → take n s ≡ headerOf s
+  unfolding headerOf textOf
+  header-short h = rw (← p) (sym (take-all 5 (take n s) (omega (arith, length-take-le n s (omega arith)))))
+
+  pub header-part : 5 ≤ n → take 5 s ≡ headerOf s
+  unfolding headerOf textOf
+  header-part h = rw (← p) (sym (take-take 5 n s h))
+
+  pub header-long : 5 ≤ n → 5 ≡ length (take 5 s)
+  header-long h = sym (length-take-le 5 s (omega arith))
+
+  pub payload-short : n < 5 → [] ≡ payloadOf s
+  unfolding payloadOf textOf
+  payload-short h = rw (← p) (sym (drop-of-length-le (take n s) {i = 5} (omega (arith, length-take-le n s (omega arith)))))
+
+  pub payload-part : take (n - 5) (drop 5 s) ≡ payloadOf s
+  unfolding payloadOf textOf
+  payload-part = rw (← p) (sym (drop-take 5 n s))
+
+-- command_of, other_command: t is whether the header is the command's
+module _ (c : Command) (cs : List Command) (h : List ℕ) (t : Bool) (p : t ≡ sameBytes h (requestHeader c)) where
+  pub named-here : t ≡ true → c ≡ named (c ∷ cs) h
+  named-here e = rw (← p, e)
+
+  pub named-later : t ≡ false → (r : Command) → r ≡ named cs h → r ≡ named (c ∷ cs) h
+  named-later e r q = rw (← p, e, q)
+
+-- put_header
+pub header-written : (c k : Command) {d e : List ℕ} {r : ℕ} → c ≡ k → Wrote d 0 (responseHeader k) e r → Wrote d 0 (responseHeader c) e r
+header-written c k p w = rw p w
+
+-- put_head
+pub head-written : {d e f s : List ℕ} {a r : ℕ} (c : Command) → Wrote d 0 (responseHeader c) e a → Wrote e a s f r → Wrote d 0 (headBytes c s) f r
+unfolding headBytes
+head-written c u w = then u w
+
+-- close_message
+pub message-closed : {d e f : List ℕ} {n a r : ℕ} → Wrote d n (sumDigits Arc (take (n - 0) (drop 0 d))) e a → Wrote e a (13 ∷ []) f r → Wrote d n (ending (take n d)) f r
+unfolding ending
+message-closed u w = then (rw sub-zero at u) w

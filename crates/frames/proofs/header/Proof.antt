@@ -1,0 +1,17 @@
+-- `frames::header` meets its contract: the first five bytes of the text.
+use mathlib.Core.Path.{sym}
+use lib.Seq.{length-take-le}
+use Rattle.frames.proofs.FrameLaws.{header-short, header-part, header-long}
+use borrow.Author.Needs.{needs}
+use Rattle.frames.proofs.header.Statement.{statement}
+use Rattle.frames.proofs.header.Tie as tie
+
+pub header-spec : {M : Type 1} → statement M
+header-spec =
+    tie.close
+    (tie.spec
+    (λ c κs. search needs)
+    (λ c. sym (length-take-le _ _ (search needs)))
+    (λ c. search header-short)
+    (λ c. search header-long)
+    (λ c. search header-part))

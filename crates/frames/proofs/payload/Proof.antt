@@ -1,0 +1,16 @@
+-- `frames::payload` meets its contract: what follows the header in the text.
+use Rattle.frames.proofs.FrameLaws.{payload-short, payload-part}
+use borrow.Author.Needs.{needs}
+use Rattle.frames.proofs.payload.Statement.{statement}
+use Rattle.frames.proofs.payload.Tie as tie
+
+pub payload-spec : {M : Type 1} → statement M
+payload-spec =
+    tie.close
+    (tie.spec
+    (λ c κs. search needs)
+    (λ c. search needs)
+    (λ c. search payload-short)
+    (λ c. search needs)
+    (λ c. search needs)
+    (λ c. search payload-part))

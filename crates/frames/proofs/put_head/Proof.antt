@@ -1,0 +1,14 @@
+-- `frames::put_head` meets its contract: header, then status.
+use Rattle.frames.proofs.FrameLaws.{head-written}
+use borrow.Author.Needs.{needs}
+use Rattle.frames.proofs.put_head.Statement.{statement}
+use Rattle.frames.proofs.put_head.Tie as tie
+
+pub put-head-spec : {M : Type 1} → statement M
+put-head-spec =
+    tie.close
+    (tie.spec
+    (λ c κs. search needs)
+    (λ c κs. search needs)
+    (λ c. search needs)
+    (λ c. (search head-written, search needs)))

@@ -1,0 +1,44 @@
+-- The frame of a message: header, payload, checksum, carriage return (001 clauses 5.2 and 5.3; document 01, Checksum and fields).
+use Prim.Native.Nat.{ℕ, _-_}
+use mathlib.Core.Bool.{Bool, _&&_}
+use mathlib.Core.List.{List, [], _∷_, _++_}
+use lib.Dec.{eqb, leb}
+use lib.ListN.{length, take, drop}
+use Rattle.octets.specs.Strings.{isNot, run}
+use Rattle.checksum.specs.Checksum.{sumDigits, endsInSum}
+use Rattle.checksum.specs.declared.Kind.the-variants.{Arc}
+
+-- the first carriage return is the last byte
+unfoldable pub endsInReturn : List ℕ → Bool
+endsInReturn s = eqb (run (isNot 13) s) (length s - 1)
+
+-- question 5: 10 to 1,024 bytes, and the only carriage return at the end
+unfoldable pub isWhole : List ℕ → Bool
+isWhole s = leb 10 (length s) && (leb (length s) 1024 && endsInReturn s)
+
+-- question 6: the checksum before the carriage return is that of all before it
+unfoldable pub isChecked : List ℕ → Bool
+isChecked s = leb 1 (length s) && endsInSum Arc (take (length s - 1) s)
+
+-- what the checksum covers
+unfoldable pub textOf : List ℕ → List ℕ
+textOf s = take (length s - 5) s
+
+unfoldable pub headerOf : List ℕ → List ℕ
+headerOf s = take 5 (textOf s)
+
+-- what follows the header of a request
+unfoldable pub payloadOf : List ℕ → List ℕ
+payloadOf s = drop 5 (textOf s)
+
+-- checksum and carriage return of a text
+unfoldable pub ending : List ℕ → List ℕ
+ending s = sumDigits Arc s ++ (13 ∷ [])
+
+-- a message as it is sent
+unfoldable pub framed : List ℕ → List ℕ
+framed s = s ++ ending s
+
+-- a request as it is sent
+unfoldable pub requestBytes : List ℕ → List ℕ → List ℕ
+requestBytes header payload = framed (header ++ payload)
