@@ -1,16 +1,17 @@
 -- Every byte string ends in its check value once the digits stand behind it, and no other four bytes pass.
 use mathlib.Core.Path.{_≡_, refl, sym, ap, _∙_}
-use mathlib.Core.Bool.{Bool, true, false, _&&_}
+use mathlib.Core.Bool.{Bool, true}
 use mathlib.Core.List.{List, [], _∷_, _++_}
 use Prim.Native.Nat.{ℕ, zero, suc, _+_, _-_, _/_, _%_, _≤_, _<_}
 use native.Mathlib.Nat.{add-zero}
 use native.Mathlib.Omega.{arith}
-use lib.Dec.{T, eqb, leb, ltb, lit<}
+use lib.Dec.{T, leb, lit<}
 use lib.ListN.{length, getD, take, drop, length-append, length-drop, take-append-drop}
 use lib.Seq.{take-at, getD-append-add, length-take-le}
 use borrow.Author.Tests.{le-leb, leb-true, eq-eqb, eqb-true, ltb-true}
 use Rattle.octets.specs.Strings.{allOf}
-use Rattle.octets.proofs.Flags.{nope, yes, and-first, and-second, and-both}
+use Rattle.octets.proofs.Flags.{nope, yes, and-first, and-second}
+use Rattle.octets.proofs.StringLaws.{isByte}
 use Rattle.octets.proofs.Below.{allBelow, at-below}
 use Rattle.crc.proofs.Bound.{crc-bound}
 use Rattle.hexadecimal.specs.Hex.{hexDigit, hex4, readHex4}
@@ -20,9 +21,6 @@ use Rattle.hexadecimal.proofs.RoundTrip.{hex4-read, hex4-only}
 use Rattle.checksum.specs.Checksum.{sumOf, sumDigits, isSum, endsInSum}
 use Rattle.checksum.specs.declared.Kind.{Kind}
 use Rattle.checksum.specs.declared.Kind.the-variants.{Arc, Modbus}
-
-abbrev pub isByte : ℕ → Bool
-isByte b = ltb b 256
 
 byte-at : (s : List ℕ) → allOf isByte s ≡ true → (i : ℕ) → getD s i 0 < 256
 byte-at [] e i = lit< tt

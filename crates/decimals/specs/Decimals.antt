@@ -1,8 +1,8 @@
--- Decimal numbers: read, written, and in a range without leading zero.
-use Prim.Native.Nat.{ℕ, zero, suc, _+_, _-_, _*_, _/_, _%_}
-use mathlib.Core.Bool.{Bool, cond, not, _&&_, _||_}
-use mathlib.Core.List.{List, [], _∷_, _++_}
-use lib.Dec.{leb, ltb, eqb}
+-- Decimal numbers: read, and in a range without leading zero.
+use Prim.Native.Nat.{ℕ, _+_, _-_, _*_}
+use mathlib.Core.Bool.{Bool, not, _&&_, _||_}
+use mathlib.Core.List.{List, [], _∷_}
+use lib.Dec.{leb, eqb}
 use lib.ListN.{length, getD}
 use Rattle.text.specs.Classes.{areAll}
 use Rattle.text.specs.declared.Class.the-variants.{Digit}
@@ -15,15 +15,6 @@ decFrom v (b ∷ bs) = decFrom (v * 10 + (b - 48)) bs
 -- the number that decimal digits say
 abbrev pub decimal : List ℕ → ℕ
 decimal s = decFrom 0 s
-
--- the decimal digits of v without leading zero, of which there are at most k
-unfoldable pub decDigits : ℕ → ℕ → List ℕ
-decDigits zero v = []
-decDigits (suc k) v = cond (ltb v 10) ((48 + v) ∷ []) (decDigits k (v / 10) ++ ((48 + v % 10) ∷ []))
-
--- a number below 10 ^ 10 as it is written
-unfoldable pub decimalBytes : ℕ → List ℕ
-decimalBytes v = decDigits 10 v
 
 -- no leading zero
 unfoldable pub isUnpadded : List ℕ → Bool

@@ -1,3 +1,1 @@
 pub mod ReadLaws
-pub mod RoundTrip
-pub mod Printable

@@ -1,4 +1,4 @@
--- The cases of the readers and writers, each with what the code knows where it answers as premises.
+-- The cases of the readers, each with what the code knows where it answers as premises.
 use mathlib.Core.Path.{_≡_, refl, sym, ap, _∙_}
 use mathlib.Core.Bool.{Bool, true, false, cond, not}
 use mathlib.Core.List.{List, [], _∷_, _++_, map}
@@ -11,19 +11,17 @@ use lib.Seq.{drop-cons, drop-drop, take-nil}
 use native.Mathlib.Numerals.{add-one}
 use borrow.Author.Tests.{eq-eqb, ne-eqb, not-true, not-false}
 use denote.Enum.Declared.{tagOf}
-use Rattle.octets.specs.Wrote.{Wrote}
 use Rattle.octets.specs.Strings.{isNot, run}
-use Rattle.octets.specs.Pieces.{pieces, isEnded}
+use Rattle.pieces.specs.Pieces.{pieces, isEnded}
 use Rattle.octets.proofs.Below.{below-or}
-use Rattle.octets.proofs.Writes.{then}
-use Rattle.octets.proofs.PieceLaws.{no-piece, next-piece, not-ended, next-ended}
+use Rattle.pieces.proofs.PieceLaws.{no-piece, next-piece, not-ended, next-ended}
 use Rattle.text.specs.Classes.{areAll}
 use Rattle.text.specs.declared.Class.the-variants.{Text, Hexadecimal}
-use Rattle.decimals.specs.Decimals.{decimal, decimalBytes, isNumber}
+use Rattle.decimals.specs.Decimals.{decimal, isNumber}
 use Rattle.decimals.proofs.NumberLaws.{number-short, number-most}
 use Rattle.timestamp.specs.Timestamps.{dateTimeOf, isMoment, isDateTime}
 use Rattle.timestamp.specs.declared.Moment as timestamp
-use Rattle.fields.specs.Values.{Value, number, string, date, octets, bad, isOctets, provided, typed, valueOf, valuesOf, first, valueAt, after, nextAt, contentBytes, fieldBytes}
+use Rattle.fields.specs.Values.{Value, number, string, date, octets, bad, isOctets, provided, typed, valueOf, valuesOf, first, valueAt, after, nextAt}
 use Rattle.fields.specs.Bounds.{meant, Within, numberOf, placeAfter}
 use Rattle.fields.specs.declared.Field.{Field}
 use Rattle.fields.specs.declared.Field.the-variants as code
@@ -185,8 +183,3 @@ module _ (s : List ℕ) (at : ℕ) where
           pub next-here : (n : ℕ) → n ≡ placeAfter r at e → n ≡ nextAt s at
           unfolding nextAt
           next-here n k = k ∙ after-meant s r at e ∙ ap (λ (v : Value). after v at e) field-here ∙ ap (after (valueAt s at) at) p
-
--- put_content, put_number
-pub content-written : {d e f g v : List ℕ} {a b c r k : ℕ} → Wrote d a (k ∷ []) e b → Wrote e b v f c → Wrote f c (126 ∷ []) g r → Wrote d a (contentBytes k v) g r
-unfolding contentBytes
-content-written u v w = then u (then v w)

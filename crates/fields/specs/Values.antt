@@ -5,10 +5,11 @@ use mathlib.Core.List.{List, [], _∷_, _++_, map}
 use lib.Dec.{eqb, leb}
 use lib.ListN.{length, drop}
 use Rattle.octets.specs.Strings.{isNot, run}
-use Rattle.octets.specs.Pieces.{pieces, isEnded}
+use Rattle.pieces.specs.Pieces.{pieces, isEnded}
 use Rattle.text.specs.Classes.{areAll}
 use Rattle.text.specs.declared.Class.the-variants.{Text, Hexadecimal}
-use Rattle.decimals.specs.Decimals.{decimal, decimalBytes, isNumber}
+use Rattle.decimals.specs.Decimals.{decimal, isNumber}
+use Rattle.decimal_writer.specs.Digits.{decimalBytes}
 use Rattle.timestamp.specs.Timestamps.{isDateTime}
 
 -- a field's value: a number, a string, a date as its fourteen digits, hex octets as their digits; or none of these

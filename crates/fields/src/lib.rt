@@ -1,10 +1,9 @@
-// PTVD fields (001 clause 5.4, Table 6, as document 01 narrows them): read at a place of a payload, and written.
+// PTVD fields read at a place of a payload (001 clause 5.4, Table 6, as document 01 narrows them).
 use text::Class;
 ghost use mathlib.Core.Path.{_≡_};
 ghost use Prim.Native.Nat.{_+_, _-_, _^_, _≤_, _<_};
 ghost use lib.ListN.{length, take, drop};
-ghost use Rattle.octets.specs.Wrote.{Wrote};
-ghost use Rattle.fields.specs.Values.{number, string, date, octets, isOctets, typed, valueAt, nextAt, fieldBytes, contentBytes};
+ghost use Rattle.fields.specs.Values.{isOctets, typed, valueAt, nextAt};
 ghost use Rattle.fields.specs.Bounds.{meant, Within, numberOf, placeAfter};
 ghost use Rattle.timestamp.specs.Timestamps.{isDateTime};
 
@@ -89,7 +88,7 @@ pub fn read_field(s: &[u8], at: usize) -> Read
             next: at,
         };
     }
-    let end = octets::piece_end(s, at, 126);
+    let end = pieces::piece_end(s, at, 126);
     if s.len() <= end {
         return Read {
             field: Field::Bad,
@@ -117,53 +116,4 @@ fn next_after(f: Field, at: usize, end: usize) -> usize
         return at;
     }
     end + 1
-}
-
-// Writes a field of a type with its content, and answers the place after it.
-fn put_content(dst: &mut [u8], at: usize, kind: u8, v: &[u8]) -> usize
-    requires { ⌜ at + length (now v) + 2 ≤ length (now dst) ⌝ }
-    ensures { λ r. ⌜ Wrote (now (dst .entry)) at (contentBytes kind (now (v .entry))) (now (dst .exit)) r ⌝ }
-    ensures short { λ r. ⌜ r ≡ at + length (now (v .entry)) + 2 ⌝ }
-{
-    let a = octets::put_byte(dst, at, kind);
-    let b = octets::put(dst, a, v);
-    octets::put_byte(dst, b, 126)
-}
-
-// Writes a number, and answers the place after it.
-pub fn put_number(dst: &mut [u8], at: usize, v: u32) -> usize
-    requires { ⌜ at + 12 ≤ length (now dst) ⌝ }
-    ensures { λ r. ⌜ Wrote (now (dst .entry)) at (fieldBytes (number v)) (now (dst .exit)) r ⌝ }
-    ensures short { λ r. ⌜ r ≤ at + 12 ⌝ }
-{
-    let a = octets::put_byte(dst, at, 78);
-    let b = decimals::put_decimal(dst, a, v);
-    octets::put_byte(dst, b, 126)
-}
-
-// Writes a string, and answers the place after it.
-pub fn put_string(dst: &mut [u8], at: usize, v: &[u8]) -> usize
-    requires { ⌜ at + length (now v) + 2 ≤ length (now dst) ⌝ }
-    ensures { λ r. ⌜ Wrote (now (dst .entry)) at (fieldBytes (string (now (v .entry)))) (now (dst .exit)) r ⌝ }
-    ensures short { λ r. ⌜ r ≡ at + length (now (v .entry)) + 2 ⌝ }
-{
-    put_content(dst, at, 80, v)
-}
-
-// Writes a date of fourteen digits, and answers the place after it.
-pub fn put_date(dst: &mut [u8], at: usize, v: &[u8]) -> usize
-    requires { ⌜ at + length (now v) + 2 ≤ length (now dst) ⌝ }
-    ensures { λ r. ⌜ Wrote (now (dst .entry)) at (fieldBytes (date (now (v .entry)))) (now (dst .exit)) r ⌝ }
-    ensures short { λ r. ⌜ r ≡ at + length (now (v .entry)) + 2 ⌝ }
-{
-    put_content(dst, at, 68, v)
-}
-
-// Writes hex octets by their digits, and answers the place after them.
-pub fn put_octets(dst: &mut [u8], at: usize, v: &[u8]) -> usize
-    requires { ⌜ at + length (now v) + 2 ≤ length (now dst) ⌝ }
-    ensures { λ r. ⌜ Wrote (now (dst .entry)) at (fieldBytes (octets (now (v .entry)))) (now (dst .exit)) r ⌝ }
-    ensures short { λ r. ⌜ r ≡ at + length (now (v .entry)) + 2 ⌝ }
-{
-    put_content(dst, at, 72, v)
 }

@@ -2,22 +2,22 @@
 use mathlib.Core.Path.{_≡_, refl, sym, ap, _∙_}
 use mathlib.Core.Bool.{Bool, true, false, _&&_}
 use mathlib.Core.List.{List, [], _∷_, _++_}
-use Prim.Native.Nat.{ℕ, zero, suc, _+_, _-_, _≤_, _<_}
-use native.Mathlib.Nat.{sub-zero, zero-sub, suc-sub-suc, zero-add}
+use Prim.Native.Nat.{ℕ, _+_, _-_, _≤_, _<_}
+use native.Mathlib.Nat.{sub-zero, zero-add}
 use native.Mathlib.Omega.{arith}
 use lib.Dec.{eqb}
 use lib.ListN.{length, take, drop, drop-of-length-le}
-use lib.Seq.{take-take, take-nil, take-all, length-take-le}
+use lib.Seq.{take-take, take-all, length-take-le}
 use borrow.Author.Tests.{lt-leb, le-leb}
 use Rattle.octets.specs.Wrote.{Wrote}
-use Rattle.octets.specs.Strings.{isNot, run, sameBytes}
+use Rattle.octets.specs.Strings.{isNot, run}
+use Rattle.octets.proofs.StringLaws.{drop-take}
 use Rattle.octets.proofs.Writes.{then}
 use Rattle.checksum.specs.Checksum.{sumDigits, endsInSum}
 use Rattle.checksum.specs.declared.Kind.the-variants.{Arc}
-use Rattle.frames.specs.Frames.{endsInReturn, isWhole, isChecked, textOf, headerOf, payloadOf, ending}
-use Rattle.frames.specs.Commands.{requestHeader, named, others, commandOf, responseHeader, headBytes}
-use Rattle.frames.specs.declared.commands.Command.{Command}
-use Rattle.frames.specs.declared.commands.Command.the-variants.{RS, KC, KR, KL, KF, KX, KD, GA, GL, KQ, Unknown}
+use Rattle.frames.specs.Frames.{endsInReturn, isWhole, isChecked, textOf, headerOf, payloadOf, ending, headBytes}
+use Rattle.commands.specs.Commands.{responseHeader}
+use Rattle.commands.specs.declared.Command.{Command}
 
 -- is_whole
 module _ (s : List ℕ) where
@@ -43,12 +43,6 @@ module _ (s : List ℕ) where
   unfolding isChecked
   checked h r p = rw (le-leb 1 (length s) h, p)
 
-drop-take : (m n : ℕ) (l : List ℕ) → drop m (take n l) ≡ take (n - m) (drop m l)
-drop-take zero n l = ap (λ (k : ℕ). take k l) (sym (sub-zero n))
-drop-take (suc m) zero l = ap (λ (k : ℕ). take k (drop (suc m) l)) (sym (zero-sub (suc m)))
-drop-take (suc m) (suc n) [] = sym (take-nil (suc n - suc m))
-drop-take (suc m) (suc n) (x ∷ xs) = rw suc-sub-suc (drop-take m n xs)
-
 -- header, payload: n is where the text ends
 module _ (s : List ℕ) (n : ℕ) (p : n ≡ length s - 5) where
   pub header-short : n < 5 → take n s ≡ headerOf s
@@ -69,18 +63,6 @@ module _ (s : List ℕ) (n : ℕ) (p : n ≡ length s - 5) where
   pub payload-part : take (n - 5) (drop 5 s) ≡ payloadOf s
   unfolding payloadOf textOf
   payload-part = rw (← p) (sym (drop-take 5 n s))
-
--- command_of, other_command: t is whether the header is the command's
-module _ (c : Command) (cs : List Command) (h : List ℕ) (t : Bool) (p : t ≡ sameBytes h (requestHeader c)) where
-  pub named-here : t ≡ true → c ≡ named (c ∷ cs) h
-  named-here e = rw (← p, e)
-
-  pub named-later : t ≡ false → (r : Command) → r ≡ named cs h → r ≡ named (c ∷ cs) h
-  named-later e r q = rw (← p, e, q)
-
--- put_header
-pub header-written : (c k : Command) {d e : List ℕ} {r : ℕ} → c ≡ k → Wrote d 0 (responseHeader k) e r → Wrote d 0 (responseHeader c) e r
-header-written c k p w = rw p w
 
 -- put_head
 pub head-written : {d e f s : List ℕ} {a r : ℕ} (c : Command) → Wrote d 0 (responseHeader c) e a → Wrote e a s f r → Wrote d 0 (headBytes c s) f r

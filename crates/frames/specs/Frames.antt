@@ -5,6 +5,8 @@ use mathlib.Core.List.{List, [], _∷_, _++_}
 use lib.Dec.{eqb, leb}
 use lib.ListN.{length, take, drop}
 use Rattle.octets.specs.Strings.{isNot, run}
+use Rattle.commands.specs.Commands.{responseHeader}
+use Rattle.commands.specs.declared.Command.{Command}
 use Rattle.checksum.specs.Checksum.{sumDigits, endsInSum}
 use Rattle.checksum.specs.declared.Kind.the-variants.{Arc}
 
@@ -42,3 +44,7 @@ framed s = s ++ ending s
 -- a request as it is sent
 unfoldable pub requestBytes : List ℕ → List ℕ → List ℕ
 requestBytes header payload = framed (header ++ payload)
+
+-- header and status of a response
+unfoldable pub headBytes : Command → List ℕ → List ℕ
+headBytes c status = responseHeader c ++ status

@@ -1,3 +1,1 @@
 pub mod Frames
-pub mod Commands
-pub mod Responses

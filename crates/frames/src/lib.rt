@@ -1,17 +1,12 @@
-// Requests and responses (001 clauses 5.2 and 5.3; document 01, "Checksum and fields"): the frame, the headers, and the writer of a response.
-mod commands;
-
+// Requests and responses (001 clauses 5.2 and 5.3; document 01, "Checksum and fields"): the frame, and the writer of a response's head and ending.
 use checksum::Kind;
-pub use commands::Command;
-pub use commands::command_of;
-pub use commands::put_header;
+use commands::Command;
 ghost use mathlib.Core.Path.{_≡_};
 ghost use mathlib.Core.List.{[], _∷_, _++_};
 ghost use Prim.Native.Nat.{_+_, _-_, _≤_};
 ghost use lib.ListN.{length, take};
 ghost use Rattle.octets.specs.Wrote.{Wrote};
-ghost use Rattle.frames.specs.Frames.{isWhole, isChecked, headerOf, payloadOf, ending};
-ghost use Rattle.frames.specs.Commands.{headBytes};
+ghost use Rattle.frames.specs.Frames.{isWhole, isChecked, headerOf, payloadOf, ending, headBytes};
 
 // Whether length and the only carriage return, at the end, are right (question 5).
 pub fn is_whole(s: &[u8]) -> bool
@@ -23,7 +18,7 @@ pub fn is_whole(s: &[u8]) -> bool
     if 1024 < s.len() {
         return false;
     }
-    octets::piece_end(s, 0, 13) == s.len() - 1
+    pieces::piece_end(s, 0, 13) == s.len() - 1
 }
 
 // Whether the checksum before the carriage return is right (question 6).
@@ -72,7 +67,7 @@ pub fn put_head(dst: &mut [u8], c: Command, status: &[u8]) -> usize
     ensures { λ r. ⌜ Wrote (now (dst .entry)) 0 (headBytes c (now (status .entry))) (now (dst .exit)) r ⌝ }
     ensures short { λ r. ⌜ r ≡ length (now (status .entry)) + 5 ⌝ }
 {
-    let a = put_header(dst, c);
+    let a = commands::put_header(dst, c);
     octets::put(dst, a, status)
 }
 

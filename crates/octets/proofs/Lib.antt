@@ -2,4 +2,3 @@ pub mod Writes
 pub mod Below
 pub mod Flags
 pub mod StringLaws
-pub mod PieceLaws

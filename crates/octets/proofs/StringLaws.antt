@@ -3,11 +3,12 @@ use mathlib.Core.Path.{_≡_, refl, sym, ap, _∙_}
 use mathlib.Core.Bool.{Bool, true, false, cond, not, _&&_, and-false}
 use mathlib.Core.List.{List, [], _∷_, _++_}
 use Prim.Native.Nat.{ℕ, zero, suc, _+_, _-_, _≤_, _<_, zero-le}
+use native.Mathlib.Nat.{sub-zero, zero-sub, suc-sub-suc}
 use native.Mathlib.Numerals.{add-one}
 use native.Mathlib.Omega.{arith}
-use lib.Dec.{eqb}
+use lib.Dec.{eqb, ltb}
 use lib.ListN.{length, getD, take, drop, drop-of-length-le, length-drop}
-use lib.Seq.{drop-cons, take-all}
+use lib.Seq.{drop-cons, take-all, take-nil}
 use borrow.Author.Tests.{eq-eqb, ne-eqb, eqb-true, not-true, not-false}
 use Rattle.octets.specs.Strings.{sameBytes, allOf, run}
 use Rattle.octets.proofs.Flags.{nope, and-first, and-second, and-both}
@@ -21,6 +22,17 @@ pub inside : (s : List ℕ) (i x : ℕ) → getD s i 0 ≡ suc x → i < length 
 inside [] i x e = absurd (omega arith)
 inside (b ∷ bs) zero x e = omega arith
 inside (b ∷ bs) (suc i) x e = let h = inside bs i x e in omega arith
+
+-- a part of a part
+pub drop-take : (m n : ℕ) (l : List ℕ) → drop m (take n l) ≡ take (n - m) (drop m l)
+drop-take zero n l = ap (λ (k : ℕ). take k l) (sym (sub-zero n))
+drop-take (suc m) zero l = ap (λ (k : ℕ). take k (drop (suc m) l)) (sym (zero-sub (suc m)))
+drop-take (suc m) (suc n) [] = sym (take-nil (suc n - suc m))
+drop-take (suc m) (suc n) (x ∷ xs) = rw suc-sub-suc (drop-take m n xs)
+
+-- a byte
+abbrev pub isByte : ℕ → Bool
+isByte b = ltb b 256
 
 -- same_bytes
 same-cons : (a b : List ℕ) (i : ℕ) → i < length a → i < length b → sameBytes (drop i a) (drop i b) ≡ (eqb (getD a i 0) (getD b i 0) && sameBytes (drop (i + 1) a) (drop (i + 1) b))
@@ -98,6 +110,18 @@ all-run f (b ∷ bs) q e = rw (and-first (f b) (allOf f bs) e) (omega (arith, al
 pub all-append : (f : ℕ → Bool) (p q : List ℕ) → allOf f p ≡ true → allOf f q ≡ true → allOf f (p ++ q) ≡ true
 all-append f [] q e g = g
 all-append f (b ∷ bs) q e g = and-both (f b) (allOf f (bs ++ q)) (and-first (f b) (allOf f bs) e) (all-append f bs q (and-second (f b) (allOf f bs) e) g)
+
+-- what holds of all bytes holds of those at the front
+pub all-front : (f : ℕ → Bool) (p q : List ℕ) → allOf f (p ++ q) ≡ true → allOf f p ≡ true
+all-front f [] q e = refl
+all-front f (b ∷ bs) q e = and-both (f b) (allOf f bs) (and-first (f b) (allOf f (bs ++ q)) e) (all-front f bs q (and-second (f b) (allOf f (bs ++ q)) e))
+
+-- a list passes where both of its parts do
+pub all-parts : (f : ℕ → Bool) (n : ℕ) (v : List ℕ) → allOf f (take n v) ≡ true → allOf f (drop n v) ≡ true → allOf f v ≡ true
+all-parts f zero v p q = q
+all-parts f (suc n) [] p q = refl
+all-parts f (suc n) (b ∷ bs) p q =
+    and-both (f b) (allOf f bs) (and-first (f b) (allOf f (take n bs)) p) (all-parts f n bs (and-second (f b) (allOf f (take n bs)) p) q)
 
 -- what passes one test passes another that allows more
 pub all-wider : (f g : ℕ → Bool) → ((b : ℕ) → f b ≡ true → g b ≡ true) → (p : List ℕ) → allOf f p ≡ true → allOf g p ≡ true

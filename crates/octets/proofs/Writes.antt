@@ -1,7 +1,7 @@
 -- How writes are composed.
 use mathlib.Core.Path.{_≡_, refl, sym, ap, _∙_}
 use mathlib.Core.List.{List, [], _∷_, _++_, append-assoc}
-use Prim.Native.Nat.{ℕ, zero, suc, _+_, _≤_, _<_}
+use Prim.Native.Nat.{ℕ, zero, suc, _+_, _-_, _≤_, _<_}
 use native.Mathlib.Nat.{add-zero, add-suc, suc-add, zero-add}
 use native.Mathlib.Numerals.{add-one}
 use native.Mathlib.Omega.{arith}
@@ -62,6 +62,14 @@ pub take-start : {d e p : List ℕ} {b : ℕ} → Wrote d 0 p e b → length p �
 take-start {d} {e} {p} {b} w h =
     let n : length p ≡ b = omega (arith, w .next) in
     ap (take b) (from-start w h) ∙ take-at p (drop (length p) d) b n
+
+-- the bytes that a write stored, as the part of the buffer where it stored them
+pub written-part : {d e p : List ℕ} {a b : ℕ} → Wrote d a p e b → b ≤ length d → take (b - a) (drop a e) ≡ p
+written-part {d} {e} {p} {a} {b} w h =
+    let n : length p ≡ b - a = omega (arith, w .next) in
+    ap (λ (x : List ℕ). take (b - a) (drop a x)) (w .bytes)
+    ∙ ap (take (b - a)) (drop-sets d a p (omega (arith, w .next)))
+    ∙ take-at p (drop (a + length p) d) (b - a) n
 
 -- the loop that copies s: what is left of it, from j on, is to be stored from o on; z is what comes of it all
 module _ (s d z : List ℕ) (o j : ℕ) (inv : sets d o (drop j s) ≡ z) where

@@ -1,3 +1,2 @@
-pub mod DateLaws
 pub mod MomentLaws
 pub mod Plain

@@ -9,7 +9,8 @@ use borrow.Author.Tests.{ne-eqb, not-true, not-false}
 use Rattle.text.specs.Classes.{areAll}
 use Rattle.text.specs.declared.Class.the-variants.{Digit}
 use Rattle.decimals.specs.Decimals.{decimal}
-use Rattle.timestamp.specs.Timestamps.{isDate, isTime, momentOf, timestampOf, dateTimeOf, isLater}
+use Rattle.calendar.specs.Calendar.{isDate, isTime}
+use Rattle.timestamp.specs.Timestamps.{momentOf, timestampOf, dateTimeOf, isLater}
 use Rattle.timestamp.specs.declared.Moment.{Moment}
 use Rattle.timestamp.specs.declared.Moment.the-variants.{At, Bad}
 

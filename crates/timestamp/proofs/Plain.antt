@@ -2,28 +2,23 @@
 use mathlib.Core.Path.{_≡_, refl, ap, _∙_}
 use mathlib.Core.Bool.{Bool, true, false, cond, _&&_}
 use mathlib.Core.List.{List, [], _∷_}
-use Prim.Native.Nat.{ℕ, zero, suc, _+_, _*_}
+use Prim.Native.Nat.{ℕ, _+_, _*_}
 use native.Mathlib.Omega.{arith}
 use lib.Dec.{eqb}
 use lib.ListN.{length, getD, take, drop, length-drop, drop-of-length-le}
 use lib.Seq.{drop-cons, drop-drop, take-all}
 use borrow.Author.Tests.{eqb-true}
 use Rattle.octets.specs.Strings.{allOf, isNot}
-use Rattle.octets.proofs.Flags.{nope, and-first, and-second, and-both}
+use Rattle.octets.proofs.Flags.{nope, and-first, and-second}
+use Rattle.octets.proofs.StringLaws.{all-parts}
 use Rattle.text.specs.Classes.{areAll, isOf}
 use Rattle.text.specs.declared.Class.the-variants.{Digit}
 use Rattle.text.proofs.ClassLaws.{class-plain}
 use Rattle.decimals.specs.Decimals.{decimal}
-use Rattle.timestamp.specs.Timestamps.{isDate, isTime, momentOf, timestampOf, dateTimeOf, isMoment, isTimestamp, isDateTime}
+use Rattle.calendar.specs.Calendar.{isDate, isTime}
+use Rattle.timestamp.specs.Timestamps.{momentOf, timestampOf, dateTimeOf, isMoment, isTimestamp, isDateTime}
 use Rattle.timestamp.specs.declared.Moment.{Moment}
 use Rattle.timestamp.specs.declared.Moment.the-variants.{At, Bad}
-
--- a list passes where both of its parts do
-all-parts : (f : ℕ → Bool) (n : ℕ) (v : List ℕ) → allOf f (take n v) ≡ true → allOf f (drop n v) ≡ true → allOf f v ≡ true
-all-parts f zero v p q = q
-all-parts f (suc n) [] p q = refl
-all-parts f (suc n) (b ∷ bs) p q =
-    and-both (f b) (allOf f bs) (and-first (f b) (allOf f (take n bs)) p) (all-parts f n bs (and-second (f b) (allOf f (take n bs)) p) q)
 
 -- what a moment says of its digits; b is the test of the definition, x the number
 of-digits : (date time : List ℕ) → isMoment (momentOf date time) ≡ true → (areAll Digit date ≡ true) × (areAll Digit time ≡ true)

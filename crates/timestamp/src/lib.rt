@@ -3,72 +3,12 @@ use text::Class;
 ghost use mathlib.Core.Path.{_≡_};
 ghost use Prim.Native.Nat.{_≤_};
 ghost use lib.ListN.{length};
-ghost use Rattle.timestamp.specs.Timestamps.{isLeap, daysIn, isDate, isTime, momentOf, timestampOf, dateTimeOf, isMoment, isLater};
+ghost use Rattle.timestamp.specs.Timestamps.{momentOf, timestampOf, dateTimeOf, isMoment, isLater};
 
 // A moment as the number YYYYMMDDhhmmss, or none.
 pub enum Moment {
     At(u64),
     Bad,
-}
-
-fn is_leap(y: u64) -> bool
-    ensures { λ r. ⌜ r ≡ isLeap y ⌝ }
-{
-    if y % 400 == 0 {
-        return true;
-    }
-    if y % 100 == 0 {
-        return false;
-    }
-    y % 4 == 0
-}
-
-fn days_in(y: u64, m: u64) -> u64
-    ensures { λ r. ⌜ r ≡ daysIn y m ⌝ }
-{
-    if m == 2 {
-        if is_leap(y) {
-            return 29;
-        }
-        return 28;
-    }
-    match m {
-        4 | 6 | 9 | 11 => 30,
-        _ => 31,
-    }
-}
-
-fn is_date(d: u64) -> bool
-    ensures { λ r. ⌜ r ≡ isDate d ⌝ }
-{
-    let y = d / 10000;
-    let m = d / 100 % 100;
-    let n = d % 100;
-    if y < 1900 {
-        return false;
-    }
-    if m < 1 {
-        return false;
-    }
-    if 12 < m {
-        return false;
-    }
-    if n < 1 {
-        return false;
-    }
-    n <= days_in(y, m)
-}
-
-fn is_time(t: u64) -> bool
-    ensures { λ r. ⌜ r ≡ isTime t ⌝ }
-{
-    if 23 < t / 10000 {
-        return false;
-    }
-    if 59 < t / 100 % 100 {
-        return false;
-    }
-    t % 100 <= 59
 }
 
 fn moment_of(date: &[u8], time: &[u8]) -> Moment
@@ -83,10 +23,10 @@ fn moment_of(date: &[u8], time: &[u8]) -> Moment
     }
     let d = decimals::decimal(date);
     let t = decimals::decimal(time);
-    if !is_date(d) {
+    if !calendar::is_date(d) {
         return Moment::Bad;
     }
-    if !is_time(t) {
+    if !calendar::is_time(t) {
         return Moment::Bad;
     }
     Moment::At(d * 1000000 + t)

@@ -1,0 +1,13 @@
+-- `calendar::is_time` meets its contract, a law a return.
+use Rattle.calendar.proofs.DateLaws.{timeCases}
+use borrow.Author.Needs.{needs}
+use Rattle.calendar.proofs.is_time.Statement.{statement}
+use Rattle.calendar.proofs.is_time.Tie as tie
+
+pub is-time-spec : {M : Type 1} → statement M
+is-time-spec =
+    tie.close
+    (tie.spec
+    (λ c. search timeCases)
+    (λ c. search timeCases)
+    (λ c. search timeCases))

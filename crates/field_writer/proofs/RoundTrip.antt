@@ -1,0 +1,59 @@
+-- What is written as fields is read back as the same fields, one after the other.
+use mathlib.Core.Path.{_≡_, refl, sym, ap, _∙_}
+use mathlib.Core.Bool.{Bool, true, false, cond, _&&_}
+use mathlib.Core.List.{List, [], _∷_, _++_, append-assoc, map}
+use Prim.Native.Nat.{ℕ, _%_, _^_, _≤_, _<_}
+use native.Mathlib.Omega.{arith}
+use lib.Dec.{eqb, leb}
+use lib.ListN.{length}
+use borrow.Author.Tests.{leb-true}
+use Rattle.octets.specs.Strings.{isNot, run, allOf}
+use Rattle.pieces.specs.Pieces.{pieces, isEnded}
+use Rattle.octets.proofs.Flags.{nope, and-first, and-second}
+use Rattle.pieces.proofs.PieceLaws.{pieces-cons, ended-cons}
+use Rattle.text.specs.Classes.{areAll}
+use Rattle.text.specs.declared.Class.the-variants.{Digit, Text, Hexadecimal}
+use Rattle.text.proofs.ClassLaws.{class-plain}
+use Rattle.decimal_writer.specs.Digits.{decimalBytes}
+use Rattle.decimal_writer.proofs.RoundTrip.{written-reads, written-number, written-digits}
+use Rattle.timestamp.specs.Timestamps.{isDateTime}
+use Rattle.timestamp.proofs.Plain.{date-plain}
+use Rattle.fields.specs.Values.{Value, number, string, date, octets, bad, isOctets, provided, typed, valueOf, valuesOf, contentBytes, fieldBytes, payloadBytes, isValue, areValues}
+
+-- a piece that holds no ~ is the first field
+values-cons : (p r : List ℕ) → allOf (isNot 126) p ≡ true → valuesOf (p ++ (126 ∷ r)) ≡ valueOf p ∷ valuesOf r
+unfolding valuesOf
+values-cons p r e = rw (pieces-cons 126 p r e, ended-cons 126 p r)
+
+content-cons : (t : ℕ) (v r : List ℕ) → allOf (isNot 126) (t ∷ v) ≡ true → valuesOf (contentBytes t v ++ r) ≡ typed t v ∷ valuesOf r
+unfolding contentBytes
+content-cons t v r p =
+    ap valuesOf (ap (λ (l : List ℕ). t ∷ l) (append-assoc v (126 ∷ []) r)) ∙ values-cons (t ∷ v) r p
+
+plain : (t : ℕ) (v : List ℕ) → isNot 126 t ≡ true → allOf (isNot 126) v ≡ true → allOf (isNot 126) (t ∷ v) ≡ true
+plain t v p q = rw (p, q)
+
+octets-digits : (v : List ℕ) → isOctets v ≡ true → areAll Hexadecimal v ≡ true
+unfolding isOctets
+octets-digits v e = and-second (eqb (length v % 2) 0) _ e
+
+-- THE LAW of one field: it is read as its value, whatever stands after it
+pub field-read : (x : Value) (r : List ℕ) → isValue x ≡ true → valuesOf (fieldBytes x ++ r) ≡ x ∷ valuesOf r
+unfolding typed
+field-read (number n) r e =
+    let h : n ≤ 2147483647 = leb-true n 2147483647 e in
+    let b : n < 10 ^ 10 = omega arith in
+    content-cons 78 (decimalBytes n) r (plain 78 (decimalBytes n) refl (class-plain Digit 126 (decimalBytes n) refl (written-digits n)))
+    ∙ rw (written-number n b 0 2147483647 (omega arith) h, written-reads n b)
+field-read (string v) r e = content-cons 80 v r (plain 80 v refl (class-plain Text 126 v refl e)) ∙ rw e
+field-read (date v) r e = content-cons 68 v r (plain 68 v refl (date-plain v e 126 refl)) ∙ rw e
+field-read (octets v) r e = content-cons 72 v r (plain 72 v refl (class-plain Hexadecimal 126 v refl (octets-digits v e))) ∙ rw e
+field-read bad r e = nope (cc)
+
+-- THE LAW of a payload: it is read as the fields that were written
+pub payload-read : (vs : List Value) → areValues vs ≡ true → valuesOf (payloadBytes vs) ≡ vs
+unfolding valuesOf
+payload-read [] e = refl
+payload-read (v ∷ vs) e =
+    field-read v (payloadBytes vs) (and-first (isValue v) (areValues vs) e)
+    ∙ ap (λ (l : List Value). v ∷ l) (payload-read vs (and-second (isValue v) (areValues vs) e))

@@ -1,0 +1,55 @@
+// PTVD fields written into a lent buffer (001 clause 5.4, Table 6).
+ghost use Prim.Native.Nat.{_+_, _≤_};
+ghost use mathlib.Core.Path.{_≡_};
+ghost use lib.ListN.{length};
+ghost use Rattle.octets.specs.Wrote.{Wrote};
+ghost use Rattle.fields.specs.Values.{number, string, date, octets, contentBytes, fieldBytes};
+
+// Writes a field of a type with its content, and answers the place after it.
+fn put_content(dst: &mut [u8], at: usize, kind: u8, v: &[u8]) -> usize
+    requires { ⌜ at + length (now v) + 2 ≤ length (now dst) ⌝ }
+    ensures { λ r. ⌜ Wrote (now (dst .entry)) at (contentBytes kind (now (v .entry))) (now (dst .exit)) r ⌝ }
+    ensures short { λ r. ⌜ r ≡ at + length (now (v .entry)) + 2 ⌝ }
+{
+    let a = octets::put_byte(dst, at, kind);
+    let b = octets::put(dst, a, v);
+    octets::put_byte(dst, b, 126)
+}
+
+// Writes a number, and answers the place after it.
+pub fn put_number(dst: &mut [u8], at: usize, v: u32) -> usize
+    requires { ⌜ at + 12 ≤ length (now dst) ⌝ }
+    ensures { λ r. ⌜ Wrote (now (dst .entry)) at (fieldBytes (number v)) (now (dst .exit)) r ⌝ }
+    ensures short { λ r. ⌜ r ≤ at + 12 ⌝ }
+{
+    let a = octets::put_byte(dst, at, 78);
+    let b = decimal_writer::put_decimal(dst, a, v);
+    octets::put_byte(dst, b, 126)
+}
+
+// Writes a string, and answers the place after it.
+pub fn put_string(dst: &mut [u8], at: usize, v: &[u8]) -> usize
+    requires { ⌜ at + length (now v) + 2 ≤ length (now dst) ⌝ }
+    ensures { λ r. ⌜ Wrote (now (dst .entry)) at (fieldBytes (string (now (v .entry)))) (now (dst .exit)) r ⌝ }
+    ensures short { λ r. ⌜ r ≡ at + length (now (v .entry)) + 2 ⌝ }
+{
+    put_content(dst, at, 80, v)
+}
+
+// Writes a date of fourteen digits, and answers the place after it.
+pub fn put_date(dst: &mut [u8], at: usize, v: &[u8]) -> usize
+    requires { ⌜ at + length (now v) + 2 ≤ length (now dst) ⌝ }
+    ensures { λ r. ⌜ Wrote (now (dst .entry)) at (fieldBytes (date (now (v .entry)))) (now (dst .exit)) r ⌝ }
+    ensures short { λ r. ⌜ r ≡ at + length (now (v .entry)) + 2 ⌝ }
+{
+    put_content(dst, at, 68, v)
+}
+
+// Writes hex octets by their digits, and answers the place after them.
+pub fn put_octets(dst: &mut [u8], at: usize, v: &[u8]) -> usize
+    requires { ⌜ at + length (now v) + 2 ≤ length (now dst) ⌝ }
+    ensures { λ r. ⌜ Wrote (now (dst .entry)) at (fieldBytes (octets (now (v .entry)))) (now (dst .exit)) r ⌝ }
+    ensures short { λ r. ⌜ r ≡ at + length (now (v .entry)) + 2 ⌝ }
+{
+    put_content(dst, at, 72, v)
+}

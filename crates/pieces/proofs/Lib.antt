@@ -1,0 +1,3 @@
+pub mod PieceLaws
+pub mod EndLaws
+pub mod Joined

@@ -1,0 +1,15 @@
+-- `pieces::is_ended` meets its contract, a law a return.
+use Rattle.pieces.proofs.EndLaws.{endCases}
+use borrow.Author.Needs.{needs}
+use Rattle.pieces.proofs.is_ended.Statement.{statement}
+use Rattle.pieces.proofs.is_ended.Tie as tie
+
+pub is-ended-spec : {M : Type 1} → statement M
+is-ended-spec =
+    tie.close
+    (tie.spec
+    (λ c. search endCases)
+    (λ c. search needs)
+    (λ c. search needs)
+    (λ c. search endCases)
+    (λ c. search endCases))

@@ -1,0 +1,25 @@
+-- `records::is_record` meets its contract, a law a return.
+use Rattle.records.proofs.ParseLaws.{recordCases}
+use borrow.Author.Needs.{needs}
+use Rattle.records.proofs.is_record.Statement.{statement}
+use Rattle.records.proofs.is_record.Tie as tie
+
+pub is-record-spec : {M : Type 1} → statement M
+is-record-spec =
+    tie.close
+    (tie.spec
+    (λ c κs. search needs)
+    (λ c κs. search needs)
+    (λ c. search recordCases)
+    (λ c κs. search needs)
+    (λ c. search recordCases)
+    (λ c κs. search needs)
+    (λ c κs. search needs)
+    (λ c. search recordCases)
+    (λ c κs. search needs)
+    (λ c. search recordCases)
+    (λ c κs. search needs)
+    (λ c. search recordCases)
+    (λ c. search needs)
+    (λ c. search recordCases)
+    (λ c. search recordCases))

@@ -1,0 +1,104 @@
+-- Every message that is written reads back: a request as its header and payload, a response as its header, status and fields.
+use mathlib.Core.Path.{_≡_, refl, sym, ap, _∙_}
+use mathlib.Core.Bool.{Bool, true, false, _&&_}
+use mathlib.Core.List.{List, [], _∷_, _++_, append-assoc}
+use Prim.Native.Nat.{ℕ, _+_, _-_, _≤_, _<_}
+use native.Mathlib.Omega.{arith}
+use lib.Dec.{eqb}
+use lib.ListN.{length, take, drop, length-append}
+use lib.Seq.{take-at, drop-at}
+use borrow.Author.Tests.{eq-eqb, le-leb}
+use Rattle.octets.specs.Strings.{isNot, run, allOf}
+use Rattle.octets.proofs.StringLaws.{all-run, all-append}
+use Rattle.checksum.specs.Checksum.{sumDigits, endsInSum}
+use Rattle.checksum.specs.declared.Kind.the-variants.{Arc}
+use Rattle.checksum.proofs.RoundTrip.{digits-pass, sum-ends}
+use Rattle.hexadecimal.specs.Hex.{hexDigit}
+use Rattle.text.specs.Classes.{isOf, areAll}
+use Rattle.text.specs.declared.Class.the-variants.{Printable}
+use Rattle.text.proofs.ClassLaws.{class-plain}
+use Rattle.text.proofs.Printable.{printable-bytes}
+use Rattle.fields.specs.Values.{Value, valuesOf, payloadBytes, areValues}
+use Rattle.field_writer.proofs.RoundTrip.{payload-read}
+use Rattle.field_writer.proofs.Printable.{payload-printable}
+use Rattle.frames.specs.Frames.{endsInReturn, isChecked, textOf, headerOf, payloadOf, ending, framed, requestBytes, headBytes}
+use Rattle.commands.specs.Commands.{responseHeader}
+use Rattle.commands.proofs.HeaderLaws.{header-printable, header-five}
+use Rattle.responses.specs.Responses.{responseBytes, statusOf, fieldsOf, Says}
+use Rattle.commands.specs.declared.Command.{Command}
+
+-- a text of printable bytes, framed
+module _ (s : List ℕ) (p : areAll Printable s ≡ true) where
+  five : length (ending s) ≡ 5
+  unfolding ending sumDigits
+  five = refl
+
+  size : length (framed s) ≡ length s + 5
+  unfolding framed
+  size = length-append s (ending s) ∙ ap (λ (k : ℕ). length s + k) five
+
+  -- its only carriage return is its last byte
+  pub framed-returns : endsInReturn (framed s) ≡ true
+  unfolding endsInReturn framed ending hexDigit
+  framed-returns =
+      let d = sumDigits Arc s in
+      let q : allOf (isNot 13) d ≡ true = digits-pass (isNot 13) tt Arc s (printable-bytes s p) in
+      let r : run (isNot 13) (s ++ (d ++ (13 ∷ []))) ≡ length s + (length d + 0) = all-run (isNot 13) s (d ++ (13 ∷ [])) (class-plain Printable 13 s refl p) ∙ ap (λ (k : ℕ). length s + k) (all-run (isNot 13) d (13 ∷ []) q) in
+      let n : length (s ++ (d ++ (13 ∷ []))) ≡ length s + (length d + 1) = length-append s (d ++ (13 ∷ [])) ∙ ap (λ (k : ℕ). length s + k) (length-append d (13 ∷ [])) in
+      eq-eqb _ _ (r ∙ omega arith)
+
+  -- its checksum is right
+  pub framed-checked : isChecked (framed s) ≡ true
+  unfolding isChecked framed ending
+  framed-checked =
+      let d = sumDigits Arc s in
+      let a : s ++ (d ++ (13 ∷ [])) ≡ (s ++ d) ++ (13 ∷ []) = sym (append-assoc s d (13 ∷ [])) in
+      let n : length ((s ++ d) ++ (13 ∷ [])) ≡ length (s ++ d) + 1 = length-append (s ++ d) (13 ∷ []) in
+      let m : length (s ++ d) + 1 - 1 ≡ length (s ++ d) = omega arith in
+      rw (a, n, m, take-at (s ++ d) (13 ∷ []) (length (s ++ d)) refl, le-leb 1 (length (s ++ d) + 1) (omega arith)) (sum-ends Arc s (printable-bytes s p))
+
+  pub framed-text : textOf (framed s) ≡ s
+  unfolding textOf framed
+  framed-text =
+      let m : length s + 5 - 5 ≡ length s = omega arith in
+      ap (λ (k : ℕ). take (k - 5) (s ++ ending s)) size ∙ rw m (take-at s (ending s) (length s) refl)
+
+-- a request reads back as its header and payload
+module _ (h p : List ℕ) (n : length h ≡ 5) (a : areAll Printable (h ++ p) ≡ true) where
+  pub request-header : headerOf (requestBytes h p) ≡ h
+  unfolding headerOf requestBytes
+  request-header = rw (framed-text (h ++ p) a) (take-at h p 5 n)
+
+  pub request-payload : payloadOf (requestBytes h p) ≡ p
+  unfolding payloadOf requestBytes
+  request-payload = rw (framed-text (h ++ p) a) (drop-at h p 5 n)
+
+-- THE LAW of demand 2: every response written reads back as its own header, status and fields; for each command and for GL!ER, each status of two printable characters, and all fields that PTVD can carry
+module _ (c : Command) (status : List ℕ) (fields : List Value) (two : length status ≡ 2) (p : areAll Printable status ≡ true) (v : areValues fields ≡ true) where
+  abbrev text : List ℕ
+  text = headBytes c status ++ payloadBytes fields
+
+  text-printable : areAll Printable text ≡ true
+  unfolding areAll headBytes
+  text-printable =
+      all-append (isOf Printable) (responseHeader c ++ status) (payloadBytes fields) (all-append (isOf Printable) (responseHeader c) status (header-printable c) p) (payload-printable fields v)
+
+  head-seven : length (headBytes c status) ≡ 7
+  unfolding headBytes
+  head-seven = length-append (responseHeader c) status ∙ omega (arith, header-five c)
+
+  parted : text ≡ responseHeader c ++ (status ++ payloadBytes fields)
+  unfolding headBytes
+  parted = append-assoc (responseHeader c) status (payloadBytes fields)
+
+  pub response-reads : Says (responseBytes c status fields) (responseHeader c) status fields
+  unfolding responseBytes headerOf statusOf fieldsOf
+  response-reads =
+      record {
+        returns = framed-returns text text-printable;
+        checked = framed-checked text text-printable;
+        header-is = rw (framed-text text text-printable, parted) (take-at (responseHeader c) (status ++ payloadBytes fields) 5 (header-five c));
+        status-is =
+            rw (framed-text text text-printable, parted, drop-at (responseHeader c) (status ++ payloadBytes fields) 5 (header-five c)) (take-at status (payloadBytes fields) 2 two);
+        fields-are = rw (framed-text text text-printable, drop-at (headBytes c status) (payloadBytes fields) 7 head-seven) (payload-read fields v);
+      }
