@@ -5,8 +5,6 @@ use mathlib.Core.List.{List, [], _∷_, _++_}
 use lib.Dec.{eqb, leb}
 use lib.ListN.{length, take, drop}
 use Rattle.octets.specs.Strings.{isNot, run}
-use Rattle.commands.specs.Commands.{responseHeader}
-use Rattle.commands.specs.declared.Command.{Command}
 use Rattle.checksum.specs.Checksum.{sumDigits, endsInSum}
 use Rattle.checksum.specs.declared.Kind.the-variants.{Arc}
 
@@ -45,6 +43,10 @@ framed s = s ++ ending s
 unfoldable pub requestBytes : List ℕ → List ℕ → List ℕ
 requestBytes header payload = framed (header ++ payload)
 
+-- a response's header: that of the request with ! for ? (001 clause 5.3.1)
+unfoldable pub answered : List ℕ → List ℕ
+answered header = take 2 header ++ (33 ∷ drop 3 header)
+
 -- header and status of a response
-unfoldable pub headBytes : Command → List ℕ → List ℕ
-headBytes c status = responseHeader c ++ status
+unfoldable pub headBytes : List ℕ → List ℕ → List ℕ
+headBytes header status = answered header ++ status

@@ -1,6 +1,5 @@
 // Requests and responses (001 clauses 5.2 and 5.3; document 01, "Checksum and fields"): the frame, and the writer of a response's head and ending.
 use checksum::Kind;
-use commands::Command;
 ghost use mathlib.Core.Path.{_≡_};
 ghost use mathlib.Core.List.{[], _∷_, _++_};
 ghost use Prim.Native.Nat.{_+_, _-_, _≤_};
@@ -61,14 +60,16 @@ pub fn payload<'a>(s: &'a [u8]) -> &'a [u8]
     &s[5..n]
 }
 
-// Writes header and status of a response from the start on, and answers the place after them.
-pub fn put_head(dst: &mut [u8], c: Command, status: &[u8]) -> usize
-    requires { ⌜ length (now status) + 5 ≤ length (now dst) ⌝ }
-    ensures { λ r. ⌜ Wrote (now (dst .entry)) 0 (headBytes c (now (status .entry))) (now (dst .exit)) r ⌝ }
-    ensures short { λ r. ⌜ r ≡ length (now (status .entry)) + 5 ⌝ }
+// Writes the head of a response from the start on: the header with ! for ?, and the status. Answers the place after it.
+pub fn put_head(dst: &mut [u8], header: &[u8], status: &[u8]) -> usize
+    requires { ⌜ (3 ≤ length (now header)) × (length (now header) + length (now status) ≤ length (now dst)) ⌝ }
+    ensures { λ r. ⌜ Wrote (now (dst .entry)) 0 (headBytes (now (header .entry)) (now (status .entry))) (now (dst .exit)) r ⌝ }
+    ensures short { λ r. ⌜ r ≡ length (now (header .entry)) + length (now (status .entry)) ⌝ }
 {
-    let a = commands::put_header(dst, c);
-    octets::put(dst, a, status)
+    let a = octets::put(dst, 0, &header[0..2]);
+    let b = octets::put_byte(dst, a, 33);
+    let c = octets::put(dst, b, &header[3..]);
+    octets::put(dst, c, status)
 }
 
 // Ends the message of the first n bytes: checksum and carriage return. Answers the place after them.

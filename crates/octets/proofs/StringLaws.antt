@@ -123,6 +123,17 @@ all-parts f (suc n) [] p q = refl
 all-parts f (suc n) (b ∷ bs) p q =
     and-both (f b) (allOf f bs) (and-first (f b) (allOf f (take n bs)) p) (all-parts f n bs (and-second (f b) (allOf f (take n bs)) p) q)
 
+-- and of a part
+pub all-take : (f : ℕ → Bool) (n : ℕ) (v : List ℕ) → allOf f v ≡ true → allOf f (take n v) ≡ true
+all-take f zero v e = refl
+all-take f (suc n) [] e = refl
+all-take f (suc n) (b ∷ bs) e = and-both (f b) (allOf f (take n bs)) (and-first (f b) (allOf f bs) e) (all-take f n bs (and-second (f b) (allOf f bs) e))
+
+pub all-drop : (f : ℕ → Bool) (n : ℕ) (v : List ℕ) → allOf f v ≡ true → allOf f (drop n v) ≡ true
+all-drop f zero v e = e
+all-drop f (suc n) [] e = refl
+all-drop f (suc n) (b ∷ bs) e = all-drop f n bs (and-second (f b) (allOf f bs) e)
+
 -- what passes one test passes another that allows more
 pub all-wider : (f g : ℕ → Bool) → ((b : ℕ) → f b ≡ true → g b ≡ true) → (p : List ℕ) → allOf f p ≡ true → allOf g p ≡ true
 all-wider f g h [] e = refl

@@ -9,7 +9,7 @@ use lib.ListN.{length, take, drop, length-append}
 use lib.Seq.{take-at, drop-at}
 use borrow.Author.Tests.{eq-eqb, le-leb}
 use Rattle.octets.specs.Strings.{isNot, run, allOf}
-use Rattle.octets.proofs.StringLaws.{all-run, all-append}
+use Rattle.octets.proofs.StringLaws.{all-run, all-append, all-take, all-drop}
 use Rattle.checksum.specs.Checksum.{sumDigits, endsInSum}
 use Rattle.checksum.specs.declared.Kind.the-variants.{Arc}
 use Rattle.checksum.proofs.RoundTrip.{digits-pass, sum-ends}
@@ -21,11 +21,9 @@ use Rattle.text.proofs.Printable.{printable-bytes}
 use Rattle.fields.specs.Values.{Value, valuesOf, payloadBytes, areValues}
 use Rattle.field_writer.proofs.RoundTrip.{payload-read}
 use Rattle.field_writer.proofs.Printable.{payload-printable}
-use Rattle.frames.specs.Frames.{endsInReturn, isChecked, textOf, headerOf, payloadOf, ending, framed, requestBytes, headBytes}
-use Rattle.commands.specs.Commands.{responseHeader}
-use Rattle.commands.proofs.HeaderLaws.{header-printable, header-five}
+use Rattle.frames.specs.Frames.{endsInReturn, isChecked, textOf, headerOf, payloadOf, ending, framed, requestBytes, answered, headBytes}
+use Rattle.frames.proofs.FrameLaws.{answered-length}
 use Rattle.responses.specs.Responses.{responseBytes, statusOf, fieldsOf, Says}
-use Rattle.commands.specs.declared.Command.{Command}
 
 -- a text of printable bytes, framed
 module _ (s : List ℕ) (p : areAll Printable s ≡ true) where
@@ -73,32 +71,41 @@ module _ (h p : List ℕ) (n : length h ≡ 5) (a : areAll Printable (h ++ p) �
   unfolding payloadOf requestBytes
   request-payload = rw (framed-text (h ++ p) a) (drop-at h p 5 n)
 
--- THE LAW of demand 2: every response written reads back as its own header, status and fields; for each command and for GL!ER, each status of two printable characters, and all fields that PTVD can carry
-module _ (c : Command) (status : List ℕ) (fields : List Value) (two : length status ≡ 2) (p : areAll Printable status ≡ true) (v : areValues fields ≡ true) where
+-- THE LAW of demand 2: every response written reads back as its own header, status and fields: for each header of five printable characters, GL!ER among them,
+-- each status of two, and all fields that PTVD can carry
+module _ (header status : List ℕ) (fields : List Value) (five : length header ≡ 5) (two : length status ≡ 2) (h : areAll Printable header ≡ true) (p : areAll Printable status ≡ true) (v : areValues fields ≡ true) where
   abbrev text : List ℕ
-  text = headBytes c status ++ payloadBytes fields
+  text = headBytes header status ++ payloadBytes fields
+
+  answered-printable : allOf (isOf Printable) (answered header) ≡ true
+  unfolding areAll answered
+  answered-printable =
+      all-append (isOf Printable) (take 2 header) (33 ∷ drop 3 header) (all-take (isOf Printable) 2 header h) (rw (all-drop (isOf Printable) 3 header h))
+
+  answered-five : length (answered header) ≡ 5
+  answered-five = answered-length header (omega arith) ∙ five
 
   text-printable : areAll Printable text ≡ true
   unfolding areAll headBytes
   text-printable =
-      all-append (isOf Printable) (responseHeader c ++ status) (payloadBytes fields) (all-append (isOf Printable) (responseHeader c) status (header-printable c) p) (payload-printable fields v)
+      all-append (isOf Printable) (answered header ++ status) (payloadBytes fields) (all-append (isOf Printable) (answered header) status answered-printable p) (payload-printable fields v)
 
-  head-seven : length (headBytes c status) ≡ 7
+  head-seven : length (headBytes header status) ≡ 7
   unfolding headBytes
-  head-seven = length-append (responseHeader c) status ∙ omega (arith, header-five c)
+  head-seven = length-append (answered header) status ∙ omega (arith, answered-five)
 
-  parted : text ≡ responseHeader c ++ (status ++ payloadBytes fields)
+  parted : text ≡ answered header ++ (status ++ payloadBytes fields)
   unfolding headBytes
-  parted = append-assoc (responseHeader c) status (payloadBytes fields)
+  parted = append-assoc (answered header) status (payloadBytes fields)
 
-  pub response-reads : Says (responseBytes c status fields) (responseHeader c) status fields
+  pub response-reads : Says (responseBytes header status fields) (answered header) status fields
   unfolding responseBytes headerOf statusOf fieldsOf
   response-reads =
       record {
         returns = framed-returns text text-printable;
         checked = framed-checked text text-printable;
-        header-is = rw (framed-text text text-printable, parted) (take-at (responseHeader c) (status ++ payloadBytes fields) 5 (header-five c));
+        header-is = rw (framed-text text text-printable, parted) (take-at (answered header) (status ++ payloadBytes fields) 5 answered-five);
         status-is =
-            rw (framed-text text text-printable, parted, drop-at (responseHeader c) (status ++ payloadBytes fields) 5 (header-five c)) (take-at status (payloadBytes fields) 2 two);
-        fields-are = rw (framed-text text text-printable, drop-at (headBytes c status) (payloadBytes fields) 7 head-seven) (payload-read fields v);
+            rw (framed-text text text-printable, parted, drop-at (answered header) (status ++ payloadBytes fields) 5 answered-five) (take-at status (payloadBytes fields) 2 two);
+        fields-are = rw (framed-text text text-printable, drop-at (headBytes header status) (payloadBytes fields) 7 head-seven) (payload-read fields v);
       }

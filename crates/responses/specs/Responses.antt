@@ -6,10 +6,10 @@ use mathlib.Core.List.{List, _++_}
 use lib.ListN.{take, drop}
 use Rattle.fields.specs.Values.{Value, valuesOf, payloadBytes}
 use Rattle.frames.specs.Frames.{endsInReturn, isChecked, framed, textOf, headerOf, headBytes}
-use Rattle.commands.specs.declared.Command.{Command}
 
-unfoldable pub responseBytes : Command → List ℕ → List Value → List ℕ
-responseBytes c status fields = framed (headBytes c status ++ payloadBytes fields)
+-- the answer to a request with that header
+unfoldable pub responseBytes : List ℕ → List ℕ → List Value → List ℕ
+responseBytes header status fields = framed (headBytes header status ++ payloadBytes fields)
 
 -- the two status characters after the header
 unfoldable pub statusOf : List ℕ → List ℕ

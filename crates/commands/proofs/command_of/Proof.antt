@@ -1,52 +1,39 @@
--- `commands::command_of` meets its contract: the commands before are passed over.
-use Rattle.commands.specs.Commands.{commandOf}
-use Rattle.commands.proofs.HeaderLaws.{named-here, named-later}
+-- `commands::command_of` meets its contract. What is left of the headers is what is left to compare.
+use mathlib.Core.Path.{_≡_, refl}
+use Prim.Native.Nat.{_-_, _≤_}
+use lib.ListN.{drop}
+use Rattle.commands.specs.Commands.{headers, named, commandOf}
+use Rattle.commands.proofs.HeaderLaws.{none-named, named-here, named-later}
 use borrow.Author.Needs.{needs}
 use Rattle.commands.proofs.command_of.Statement.{statement}
 use Rattle.commands.proofs.command_of.Tie as tie
 
-returns : tie.Need-returns
-unfolding commandOf
-returns c = search (named-here, named-later)
+abbrev Inv-loop : tie.InvT-loop
+Inv-loop h k₀ k = (k ≤ 10) × (named (drop k headers) h ≡ named headers h)
 
-returns-2 : tie.Need-returns-2
-unfolding commandOf
-returns-2 c = search (named-here, named-later)
+abbrev μ-loop : tie.MeasureT-loop
+μ-loop h k₀ k = 10 - k
 
-returns-3 : tie.Need-returns-3
+returns : tie.Need-returns Inv-loop μ-loop
 unfolding commandOf
-returns-3 c = search (named-here, named-later)
+returns c = search named-here
 
-returns-4 : tie.Need-returns-4
+returns-2 : tie.Need-returns-2 Inv-loop μ-loop
 unfolding commandOf
-returns-4 c = search (named-here, named-later)
-
-returns-5 : tie.Need-returns-5
-unfolding commandOf
-returns-5 c = search (named-here, named-later)
-
-returns-6 : tie.Need-returns-6
-unfolding commandOf
-returns-6 c = search (named-here, named-later)
+returns-2 c = search none-named
 
 pub command-of-spec : {M : Type 1} → statement M
 command-of-spec =
     tie.close
     (tie.spec
+    Inv-loop
+    μ-loop
+    (λ c. (search needs, refl))
+    (λ c κs. search needs)
     (λ c. search needs)
     (λ c κs. search needs)
     returns
     (λ c. search needs)
-    (λ c κs. search needs)
-    returns-2
     (λ c. search needs)
-    (λ c κs. search needs)
-    returns-3
-    (λ c. search needs)
-    (λ c κs. search needs)
-    returns-4
-    (λ c. search needs)
-    (λ c κs. search needs)
-    returns-5
-    (λ c κs. search needs)
-    returns-6)
+    (λ c. (search needs, search named-later))
+    returns-2)

@@ -1,4 +1,4 @@
--- `frames::put_head` meets its contract: header, then status.
+-- `frames::put_head` meets its contract: the header up to its third byte, !, the rest of it, the status.
 use Rattle.frames.proofs.FrameLaws.{head-written}
 use borrow.Author.Needs.{needs}
 use Rattle.frames.proofs.put_head.Statement.{statement}
@@ -8,6 +8,14 @@ pub put-head-spec : {M : Type 1} → statement M
 put-head-spec =
     tie.close
     (tie.spec
+    (λ c. search needs)
+    (λ c. search needs)
+    (λ c. search needs)
+    (λ c κs. search needs)
+    (λ c κs. search needs)
+    (λ c. search needs)
+    (λ c. search needs)
+    (λ c. search needs)
     (λ c κs. search needs)
     (λ c κs. search needs)
     (λ c. search needs)
