@@ -1,0 +1,13 @@
+-- `identities::is_field` meets its contract: the form of the part.
+use Rattle.identities.proofs.Chain.{form-of}
+use borrow.Author.Needs.{needs}
+use Rattle.identities.proofs.is_field.Statement.{statement}
+use Rattle.identities.proofs.is_field.Tie as tie
+
+pub is-field-spec : {M : Type 1} → statement M
+is-field-spec =
+    tie.close
+    (tie.spec
+    (λ c κs. search needs)
+    (λ c κs. search needs)
+    (λ c. search form-of))

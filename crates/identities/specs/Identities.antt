@@ -1,0 +1,38 @@
+-- Identities (003 clause 7.1; document 01, Records): type, manufacturer or SWID, name, timestamp, fingerprint, split by a colon. What parses (question 9) apart from what is in form (question 10).
+use Prim.Native.Nat.{ℕ}
+use mathlib.Core.Bool.{Bool, _&&_}
+use mathlib.Core.List.{List, [], _∷_}
+use Rattle.records.specs.Records.{field, isRecord}
+use Rattle.forms.specs.Forms.{inForm}
+use Rattle.forms.specs.declared.Form.the-variants.{Timestamp, Hex, Name}
+
+abbrev pub colon : ℕ
+colon = 58
+
+-- "KMCID.1"
+abbrev pub kmcid1 : List ℕ
+kmcid1 = 75 ∷ 77 ∷ 67 ∷ 73 ∷ 68 ∷ 46 ∷ 49 ∷ []
+
+-- "SMID.1"
+abbrev pub smid1 : List ℕ
+smid1 = 83 ∷ 77 ∷ 73 ∷ 68 ∷ 46 ∷ 49 ∷ []
+
+-- the identity of a key management centre parses
+abbrev pub isKmcIdentity : List ℕ → Bool
+isKmcIdentity s = isRecord colon kmcid1 4 s
+
+-- the identity of a module parses
+abbrev pub isModuleIdentity : List ℕ → Bool
+isModuleIdentity s = isRecord colon smid1 4 s
+
+-- the fields of an identity are in form
+unfoldable pub identityInForm : List ℕ → Bool
+identityInForm s =
+    inForm Name (field colon 1 s) && (inForm Name (field colon 2 s) && (inForm Timestamp (field colon 3 s) && inForm (Hex 16) (field colon 4 s)))
+
+-- the name in an identity, KMCID or MID
+abbrev pub nameIn : List ℕ → List ℕ
+nameIn s = field colon 2 s
+
+abbrev pub fingerprintIn : List ℕ → List ℕ
+fingerprintIn s = field colon 4 s

@@ -1,0 +1,13 @@
+-- `key_records::has_identity_in_form` meets its contract: the identity is the part.
+use Rattle.identities.proofs.Chain.{identity-of}
+use borrow.Author.Needs.{needs}
+use Rattle.key_records.proofs.has_identity_in_form.Statement.{statement}
+use Rattle.key_records.proofs.has_identity_in_form.Tie as tie
+
+pub has-identity-in-form-spec : {M : Type 1} → statement M
+has-identity-in-form-spec =
+    tie.close
+    (tie.spec
+    (λ c κs. search needs)
+    (λ c κs. search needs)
+    (λ c. search identity-of))

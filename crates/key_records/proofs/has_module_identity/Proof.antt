@@ -1,0 +1,13 @@
+-- `key_records::has_module_identity` meets its contract: the identity is the part.
+use Rattle.identities.proofs.Chain.{record-of}
+use borrow.Author.Needs.{needs}
+use Rattle.key_records.proofs.has_module_identity.Statement.{statement}
+use Rattle.key_records.proofs.has_module_identity.Tie as tie
+
+pub has-module-identity-spec : {M : Type 1} → statement M
+has-module-identity-spec =
+    tie.close
+    (tie.spec
+    (λ c κs. search needs)
+    (λ c κs. search needs)
+    (λ c. search record-of))
