@@ -183,3 +183,34 @@ module _ (s : List ℕ) (at : ℕ) where
           pub next-here : (n : ℕ) → n ≡ placeAfter r at e → n ≡ nextAt s at
           unfolding nextAt
           next-here n k = k ∙ after-meant s r at e ∙ ap (λ (v : Value). after v at e) field-here ∙ ap (after (valueAt s at) at) p
+
+-- the bounds of a field that was read
+module _ (n : ℕ) (f : Field) (w : Within n f) (a e : ℕ) where
+  text-both : f ≡ code.Text a e → (a ≤ e) × (e ≤ n)
+  text-both p = rw p at w
+
+  date-both : f ≡ code.Date a e → (a ≤ e) × (e ≤ n)
+  date-both p = rw p at w
+
+  octets-both : f ≡ code.Octets a e → (a ≤ e) × (e ≤ n)
+  octets-both p = rw p at w
+
+  pub text-start : f ≡ code.Text a e → a ≤ e
+  text-start p = text-both p .0
+
+  pub text-end : f ≡ code.Text a e → e ≤ n
+  text-end p = text-both p .1
+
+  pub date-start : f ≡ code.Date a e → a ≤ e
+  date-start p = date-both p .0
+
+  pub date-end : f ≡ code.Date a e → e ≤ n
+  date-end p = date-both p .1
+
+  pub octets-start : f ≡ code.Octets a e → a ≤ e
+  octets-start p = octets-both p .0
+
+  pub octets-end : f ≡ code.Octets a e → e ≤ n
+  octets-end p = octets-both p .1
+
+pub ruleset boundCases = (text-start, text-end, date-start, date-end, octets-start, octets-end)

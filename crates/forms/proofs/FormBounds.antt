@@ -13,6 +13,7 @@ use Rattle.octets.proofs.Flags.{nope, and-first, and-second, and-both, or-cases
 use Rattle.octets.proofs.StringLaws.{all-wider}
 use Rattle.text.specs.Classes.{within, isAlphanumeric, isMark, isOf, areAll}
 use Rattle.text.specs.declared.Class.the-variants.{Digit, Hexadecimal, Identifier, Text, Value}
+use Rattle.text.proofs.Printable.{wider}
 use Rattle.text.proofs.ClassLaws.{class-plain}
 use Rattle.text.proofs.Identify.{name-short, name-bytes}
 use Rattle.decimals.specs.Decimals.{isNumber}
@@ -24,12 +25,6 @@ use Rattle.forms.specs.declared.Form.{Form}
 use Rattle.forms.specs.declared.Form.the-variants.{Timestamp, Algorithm, Number, Digits, Hex, HexSome, Name, Empty}
 
 -- classes within classes
-within-wider : (b low high least most : ℕ) → least ≤ low → high ≤ most → within b low high ≡ true → within b least most ≡ true
-within-wider b low high least most l m e =
-    let p : low ≤ b = leb-true low b (and-first (leb low b) (leb b high) e) in
-    let q : b ≤ high = leb-true b high (and-second (leb low b) (leb b high) e) in
-    and-both (leb least b) (leb b most) (le-leb least b (omega arith)) (le-leb b most (omega arith))
-
 digit-identifier : (b : ℕ) → isOf Digit b ≡ true → isOf Identifier b ≡ true
 unfolding isAlphanumeric
 digit-identifier b e = rw e
@@ -43,15 +38,15 @@ hex-identifier : (b : ℕ) → isOf Hexadecimal b ≡ true → isOf Identifier b
 hex-identifier b e =
     ⊎-elim
     (digit-identifier b)
-    (λ (q : within b 65 70 ≡ true). capital-identifier b (within b 48 57) refl (within-wider b 65 70 65 90 (omega arith) (omega arith) q))
+    (λ (q : within b 65 70 ≡ true). capital-identifier b (within b 48 57) refl (wider b 65 70 65 90 (omega arith) (omega arith) q))
     (or-cases (within b 48 57) (within b 65 70) e)
 
 alphanumeric-text : (b : ℕ) → isAlphanumeric b ≡ true → isOf Text b ≡ true
 unfolding isAlphanumeric
 alphanumeric-text b e =
     ⊎-elim
-    (within-wider b 48 57 32 125 (omega arith) (omega arith))
-    (λ (q : (within b 65 90 || within b 97 122) ≡ true). ⊎-elim (within-wider b 65 90 32 125 (omega arith) (omega arith)) (within-wider b 97 122 32 125 (omega arith) (omega arith)) (or-cases (within b 65 90) (within b 97 122) q))
+    (wider b 48 57 32 125 (omega arith) (omega arith))
+    (λ (q : (within b 65 90 || within b 97 122) ≡ true). ⊎-elim (wider b 65 90 32 125 (omega arith) (omega arith)) (wider b 97 122 32 125 (omega arith) (omega arith)) (or-cases (within b 65 90) (within b 97 122) q))
     (or-cases (within b 48 57) (within b 65 90 || within b 97 122) e)
 
 mark-text : (b : ℕ) → isMark b ≡ true → isOf Text b ≡ true
@@ -59,7 +54,7 @@ unfolding isMark
 mark-text b e =
     ⊎-elim
     (λ (q : eqb b 95 ≡ true). rw (eqb-true b 95 q))
-    (within-wider b 44 46 32 125 (omega arith) (omega arith))
+    (wider b 44 46 32 125 (omega arith) (omega arith))
     (or-cases (eqb b 95) (within b 44 46) e)
 
 identifier-text : (b : ℕ) → isOf Identifier b ≡ true → isOf Text b ≡ true

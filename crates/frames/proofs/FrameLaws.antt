@@ -43,16 +43,13 @@ module _ (s : List ℕ) where
 
 -- header, payload: n is where the text ends
 module _ (s : List ℕ) (n : ℕ) (p : n ≡ length s - 5) where
-  pub header-short : n < 5 → take n s ≡ headerOf s
+  pub header-short : n < 5 → take (n - 0) (drop 0 s) ≡ headerOf s
   unfolding headerOf textOf
-  header-short h = rw (← p) (sym (take-all 5 (take n s) (omega (arith, length-take-le n s (omega arith)))))
+  header-short h = rw (sub-zero, ← p) (sym (take-all 5 (take n s) (omega (arith, length-take-le n s (omega arith)))))
 
   pub header-part : 5 ≤ n → take 5 s ≡ headerOf s
   unfolding headerOf textOf
   header-part h = rw (← p) (sym (take-take 5 n s h))
-
-  pub header-long : 5 ≤ n → 5 ≡ length (take 5 s)
-  header-long h = sym (length-take-le 5 s (omega arith))
 
   pub payload-short : n < 5 → [] ≡ payloadOf s
   unfolding payloadOf textOf

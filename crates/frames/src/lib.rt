@@ -44,9 +44,9 @@ pub fn header<'a>(s: &'a [u8]) -> &'a [u8]
 {
     let n = text_end(s);
     if n < 5 {
-        return &s[..n];
+        return &s[0..n];
     }
-    &s[..5]
+    &s[0..5]
 }
 
 // The payload of a request.
@@ -55,7 +55,7 @@ pub fn payload<'a>(s: &'a [u8]) -> &'a [u8]
 {
     let n = text_end(s);
     if n < 5 {
-        return &s[..0];
+        return &s[0..0];
     }
     &s[5..n]
 }

@@ -3,6 +3,7 @@ use Prim.Native.Nat.{ℕ}
 use mathlib.Core.Bool.{Bool, _&&_}
 use mathlib.Core.List.{List, [], _∷_}
 use Rattle.records.specs.Records.{field, isRecord}
+use Rattle.incoming_cards.specs.Incoming.{isIncoming}
 use Rattle.identities.specs.Identities.{isKmcIdentity, isModuleIdentity, identityInForm}
 use Rattle.forms.specs.Forms.{inForm}
 use Rattle.forms.specs.declared.Form.the-variants.{Timestamp, Hex, HexSome, Empty}
@@ -43,3 +44,6 @@ responseInForm s =
 -- a wrapped key (003 clause 7.5): nonce, card, encrypted key
 abbrev pub parsesKey : List ℕ → Bool
 parsesKey s = isRecord bar key1 3 s
+
+unfoldable pub keyInForm : List ℕ → Bool
+keyInForm s = inForm HexSome (field bar 1 s) && (isIncoming (field bar 2 s) && inForm HexSome (field bar 3 s))

@@ -3,7 +3,8 @@ use forms::Form;
 ghost use mathlib.Core.Path.{_≡_};
 ghost use Rattle.records.specs.Records.{field};
 ghost use Rattle.identities.specs.Identities.{isKmcIdentity, isModuleIdentity, identityInForm};
-ghost use Rattle.key_records.specs.KeyRecords.{parsesPublicKey, publicKeyInForm, parsesResponse, responseInForm, parsesKey};
+ghost use Rattle.incoming_cards.specs.Incoming.{isIncoming};
+ghost use Rattle.key_records.specs.KeyRecords.{parsesPublicKey, publicKeyInForm, parsesResponse, responseInForm, parsesKey, keyInForm};
 
 fn has_identity_in_form(s: &[u8], k: usize) -> bool
     ensures { λ r. ⌜ r ≡ identityInForm (field 124 k (now (s .entry))) ⌝ }
@@ -86,4 +87,23 @@ pub fn parses_key(s: &[u8]) -> bool
     ensures { λ r. ⌜ r ≡ parsesKey (now (s .entry)) ⌝ }
 {
     records::is_record(s, 124, b"KEY.1", 3)
+}
+
+fn has_incoming_card(s: &[u8]) -> bool
+    ensures { λ r. ⌜ r ≡ isIncoming (field 124 2 (now (s .entry))) ⌝ }
+{
+    incoming_cards::is_incoming(records::field(s, 124, 2))
+}
+
+// Whether the fields of a wrapped key are in form, its card among them.
+pub fn key_in_form(s: &[u8]) -> bool
+    ensures { λ r. ⌜ r ≡ keyInForm (now (s .entry)) ⌝ }
+{
+    if !identities::is_field(s, 124, 1, Form::HexSome) {
+        return false;
+    }
+    if !has_incoming_card(s) {
+        return false;
+    }
+    identities::is_field(s, 124, 3, Form::HexSome)
 }

@@ -14,7 +14,7 @@ use Rattle.text.specs.Classes.{within, isOf, areAll}
 use Rattle.text.specs.declared.Class.{Class}
 use Rattle.text.specs.declared.Class.the-variants.{Digit, Hexadecimal, Text, Printable}
 
-wider : (b low high low′ high′ : ℕ) → low′ ≤ low → high ≤ high′ → within b low high ≡ true → within b low′ high′ ≡ true
+pub wider : (b low high low′ high′ : ℕ) → low′ ≤ low → high ≤ high′ → within b low high ≡ true → within b low′ high′ ≡ true
 wider b low high low′ high′ p q e =
     let l : low ≤ b = leb-true low b (and-first (leb low b) (leb b high) e) in
     let h : b ≤ high = leb-true b high (and-second (leb low b) (leb b high) e) in

@@ -1,7 +1,5 @@
 -- `frames::header` meets its contract: the first five bytes of the text.
-use mathlib.Core.Path.{sym}
-use lib.Seq.{length-take-le}
-use Rattle.frames.proofs.FrameLaws.{header-short, header-part, header-long}
+use Rattle.frames.proofs.FrameLaws.{header-short, header-part}
 use borrow.Author.Needs.{needs}
 use Rattle.frames.proofs.header.Statement.{statement}
 use Rattle.frames.proofs.header.Tie as tie
@@ -11,7 +9,11 @@ header-spec =
     tie.close
     (tie.spec
     (λ c κs. search needs)
-    (λ c. sym (length-take-le _ _ (search needs)))
+    (λ c. search needs)
+    (λ c. search needs)
+    (λ c. search needs)
     (λ c. search header-short)
-    (λ c. search header-long)
+    (λ c. search needs)
+    (λ c. search needs)
+    (λ c. search needs)
     (λ c. search header-part))

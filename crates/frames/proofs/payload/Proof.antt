@@ -10,6 +10,8 @@ payload-spec =
     (tie.spec
     (λ c κs. search needs)
     (λ c. search needs)
+    (λ c. search needs)
+    (λ c. search needs)
     (λ c. search payload-short)
     (λ c. search needs)
     (λ c. search needs)

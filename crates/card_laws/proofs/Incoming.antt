@@ -1,0 +1,255 @@
+-- From an incoming card every stored value is in form: so what is written of it fits its row, is a card as stored, and reads back.
+use mathlib.Core.Path.{_≡_, refl, sym, ap, subst, _∙_}
+use mathlib.Core.Bool.{Bool, true, false, cond, not, _&&_}
+use mathlib.Core.List.{List, [], _∷_}
+use mathlib.Core.Option.{Option, none, some}
+use Prim.Native.Nat.{ℕ, zero, suc, _≤_}
+use native.Mathlib.Omega.{arith}
+use lib.Dec.{T, eqb, ltb, leb, le→leb}
+use lib.ListN.{length, take, drop}
+use borrow.Author.Tests.{eq-eqb, eqb-true}
+use Rattle.octets.specs.Strings.{run, isNot}
+use Rattle.pieces.specs.Pieces.{pieces, isEnded}
+use Rattle.octets.proofs.Flags.{nope, and-left, and-right, no, holds}
+use Rattle.text.specs.Classes.{areAll}
+use Rattle.text.specs.declared.Class.the-variants.{Text}
+use Rattle.decimals.specs.Decimals.{isNumber, isUnpadded}
+use Rattle.calendar.specs.Calendar.{isDate, isTime, daysIn}
+use Rattle.timestamp.specs.Timestamps.{isTimestamp, timestampOf, momentOf}
+use Rattle.forms.specs.Forms.{inForm}
+use Rattle.forms.specs.declared.Form.the-variants.{Number, Digits, Hex, Name}
+use Rattle.forms.proofs.FormBounds.{most}
+use Rattle.cards.specs.Entries.{nameOf, valueIn, valueOf, orElse, valueOr}
+use Rattle.attributes.specs.Table.{CLU, KCV, KRN, KSL, SGC, VND, table, name, presence, form}
+use Rattle.incoming_cards.specs.Incoming.{fits, fitsName, fitFrom, isMet, hasRequired, isCardFrom, isIncoming}
+use Rattle.stored_cards.specs.Stored.{defaultCard, storedValue, cardBytes, storedCard, inRow, isStored}
+use Rattle.attributes.specs.declared.Presence.{Presence}
+use Rattle.attributes.specs.declared.Presence.the-variants.{Required, Optional, Engine}
+use Rattle.attributes.specs.declared.Attribute.{Attribute}
+use Rattle.cards.proofs.EntryLaws.{a-name}
+use Rattle.attributes.proofs.TableLaws.{allRows, at-row, all-rows, name-some}
+use Rattle.card_laws.proofs.RoundTrip.{isOther, isDistinct, all-distinct, room, isInForm, isWithin, fits-room, value-short, is-short, is-stored, is-text, is-measured, reads-row, reads-card}
+
+-- the attribute's own test, by its name
+fits-at : (rs : List Attribute) → T (isDistinct rs) → (k : ℕ) (a : Attribute) (r : List Attribute) → drop k rs ≡ a ∷ r → (v : List ℕ) → fitsName rs (name a) v ≡ fits a v
+fits-at [] d k a r e v = absurd (at-row (λ (x : Attribute). false) [] tt k a r e)
+fits-at (x ∷ rs) d zero a r e v = let h : x ≡ a = cc in rw (h, eq-eqb (name a) (name a) refl)
+fits-at (x ∷ rs) d (suc k) a r e v =
+    let o = at-row (isOther x) rs (and-left (allRows (isOther x) rs) (isDistinct rs) d) k a r e in
+    rw (no (eqb (name x) (name a)) o) (fits-at rs (and-right (allRows (isOther x) rs) (isDistinct rs) d) k a r e v)
+
+-- a value that is found fits its name; b is whether it is found in the first entry
+by-name : (p : List ℕ) (ps : List (List ℕ)) (n : ℕ) (v : List ℕ) (b : Bool) → eqb (nameOf p) n ≡ b → T (fitsName table (nameOf p) (drop 3 p))
+    → (valueIn n ps ≡ some v → T (fitsName table n v)) → cond b (some (drop 3 p)) (valueIn n ps) ≡ some v → T (fitsName table n v)
+by-name p ps n v true q t ih e =
+    let m : nameOf p ≡ n = eqb-true (nameOf p) n q in
+    let w : drop 3 p ≡ v = cc in
+    rw (← m, ← w) t
+by-name p ps n v false q t ih e = ih e
+
+found-fits : (last : ℕ) (ps : List (List ℕ)) → T (fitFrom last ps) → (n : ℕ) (v : List ℕ) → valueIn n ps ≡ some v → T (fitsName table n v)
+found-fits last [] t n v e = nope (cc)
+found-fits last (p ∷ ps) t n v e =
+    let u = and-right (ltb last (nameOf p)) (fitsName table (nameOf p) (drop 3 p) && fitFrom (nameOf p) ps) t in
+    by-name p ps n v (eqb (nameOf p) n) refl (and-left (fitsName table (nameOf p) (drop 3 p)) (fitFrom (nameOf p) ps) u)
+    (found-fits (nameOf p) ps (and-right (fitsName table (nameOf p) (drop 3 p)) (fitFrom (nameOf p) ps) u) n v)
+    e
+
+required-at : (rs : List Attribute) (s : List ℕ) → T (hasRequired rs s) → (k : ℕ) (a : Attribute) (r : List Attribute) → drop k rs ≡ a ∷ r → T (isMet a s)
+required-at [] s t k a r e = absurd (at-row (λ (x : Attribute). false) [] tt k a r e)
+required-at (x ∷ rs) s t zero a r e = let h : x ≡ a = cc in subst (λ (y : Attribute). T (isMet y s)) h (and-left (isMet x s) (hasRequired rs s) t)
+required-at (x ∷ rs) s t (suc k) a r e = required-at rs s (and-right (isMet x s) (hasRequired rs s) t) k a r e
+
+-- the default card has each optional value, in form; computed for the table
+abbrev hasDefault : Presence → Attribute → Bool
+hasDefault Required a = true
+hasDefault Optional a = inForm (form a) (orElse (valueOf (name a) defaultCard) [])
+hasDefault Engine a = true
+
+all-default : T (allRows (λ (a : Attribute). hasDefault (presence a) a) table)
+unfolding table defaultCard valueOf nameOf areAll isNumber isUnpadded isTimestamp timestampOf momentOf isDate isTime daysIn
+all-default = tt
+
+-- the names that are not the engine's; computed for the table
+abbrev isNotOwn : ℕ → Bool
+isNotOwn n = not (eqb n CLU) && (not (eqb n KCV) && (not (eqb n KSL) && not (eqb n VND)))
+
+abbrev isIncomings : Presence → ℕ → Bool
+isIncomings Engine n = true
+isIncomings Required n = isNotOwn n
+isIncomings Optional n = isNotOwn n
+
+all-incomings : T (allRows (λ (a : Attribute). isIncomings (presence a) (name a)) table)
+unfolding table
+all-incomings = tt
+
+-- such a name's value is the card's or the default card's
+from-card : (card clu kcv ksl vnd : List ℕ) (n : ℕ) → T (isNotOwn n) → storedValue card clu kcv ksl vnd n ≡ valueOr n card defaultCard
+unfolding storedValue
+from-card card clu kcv ksl vnd n t =
+    let a = not (eqb n CLU) in
+    let b = not (eqb n KCV) in
+    let c = not (eqb n KSL) in
+    let d = not (eqb n VND) in
+    let t1 = and-right a (b && (c && d)) t in
+    let t2 = and-right b (c && d) t1 in
+    rw (no (eqb n CLU) (and-left a (b && (c && d)) t), no (eqb n KCV) (and-left b (c && d) t1), no (eqb n KSL) (and-left c d t2), no (eqb n VND) (and-right c d t2))
+
+-- the engine's own values are in form
+abbrev isOwn : Presence → Attribute → (ℕ → List ℕ) → Bool
+isOwn Required a f = true
+isOwn Optional a f = true
+isOwn Engine a f = inForm (form a) (f (name a))
+
+module _ (s : List ℕ) (h : isIncoming s ≡ true) where
+  is-card : T (isCardFrom 0 s)
+  unfolding isIncoming
+  is-card = and-left (isCardFrom 0 s) (hasRequired table s) (holds (isCardFrom 0 s && hasRequired table s) h)
+
+  all-there : T (hasRequired table s)
+  unfolding isIncoming
+  all-there = and-right (isCardFrom 0 s) (hasRequired table s) (holds (isCardFrom 0 s && hasRequired table s) h)
+
+  all-fit : T (fitFrom 0 (pieces 59 s))
+  unfolding isCardFrom
+  all-fit = and-right (isEnded 59 s) (fitFrom 0 (pieces 59 s)) is-card
+
+  module _ (k : ℕ) (a : Attribute) (r : List Attribute) (e : drop k table ≡ a ∷ r) where
+    value-fits : (v : List ℕ) → valueOf (name a) s ≡ some v → T (fits a v)
+    value-fits v q =
+        let p : valueIn (name a) (pieces 59 s) ≡ some v = a-name s (name a) (λ z. omega (arith, name-some k a r e)) ∙ q in
+        rw (fits-at table all-distinct k a r e v) at (found-fits 0 (pieces 59 s) all-fit (name a) v p)
+
+    -- o is what the card has under the name
+    required-there : presence a ≡ Required → (o : Option (List ℕ)) → valueOf (name a) s ≡ o → o ≡ some (orElse o (orElse (valueOf (name a) defaultCard) []))
+    unfolding isMet
+    required-there q (some v) p = refl
+    required-there q none p = absurd (rw (q, p) at (required-at table s all-there k a r e))
+
+    required-value : presence a ≡ Required → (o : Option (List ℕ)) → valueOf (name a) s ≡ o → T (inForm (form a) (orElse o (orElse (valueOf (name a) defaultCard) [])))
+    unfolding isMet fits
+    required-value q (some v) p = rw q at (value-fits v p)
+    required-value q none p = absurd (rw (q, p) at (required-at table s all-there k a r e))
+
+    optional-value : presence a ≡ Optional → (o : Option (List ℕ)) → valueOf (name a) s ≡ o → T (inForm (form a) (orElse o (orElse (valueOf (name a) defaultCard) [])))
+    unfolding fits
+    optional-value q (some v) p = rw q at (value-fits v p)
+    optional-value q none p = rw q at (at-row (λ (x : Attribute). hasDefault (presence x) x) table all-default k a r e)
+
+    -- a required value is the card's own
+    pub required-own : presence a ≡ Required → valueOf (name a) s ≡ some (valueOr (name a) s defaultCard)
+    unfolding valueOr
+    required-own q = required-there q (valueOf (name a) s) refl
+
+  -- clu, kcv, ksl and vnd are the engine's values
+  module _ (clu kcv ksl vnd : List ℕ) where
+    abbrev value : ℕ → List ℕ
+    value = storedValue s clu kcv ksl vnd
+
+    row-in-form : T (allRows (λ (a : Attribute). isOwn (presence a) a value) table) → (k : ℕ) (a : Attribute) (r : List Attribute) → drop k table ≡ a ∷ r
+        → (q : Presence) → presence a ≡ q → T (isInForm value a)
+    unfolding valueOr
+    row-in-form o k a r e Required q =
+        rw (from-card s clu kcv ksl vnd (name a) (rw q at (at-row (λ (x : Attribute). isIncomings (presence x) (name x)) table all-incomings k a r e)))
+        (required-value k a r e q (valueOf (name a) s) refl)
+    row-in-form o k a r e Optional q =
+        rw (from-card s clu kcv ksl vnd (name a) (rw q at (at-row (λ (x : Attribute). isIncomings (presence x) (name x)) table all-incomings k a r e)))
+        (optional-value k a r e q (valueOf (name a) s) refl)
+    row-in-form o k a r e Engine q = rw q at (at-row (λ (x : Attribute). isOwn (presence x) x value) table o k a r e)
+
+    module _ (a : inForm (Number 1 0 0) clu ≡ true) (b : inForm (Hex 6) kcv ≡ true) (c : inForm Name ksl ≡ true) (d : inForm (Number 9 0 999999999) vnd ≡ true) where
+      own-in-form : T (allRows (λ (x : Attribute). isOwn (presence x) x value) table)
+      unfolding table storedValue
+      own-in-form = rw (a, b, c, d) tt
+
+      -- every stored value is in form,
+      pub all-in-form : T (allRows (isInForm value) table)
+      all-in-form = all-rows (isInForm value) table (λ k x r e. row-in-form own-in-form k x r e (presence x) refl)
+
+      -- the stored card fits its row,
+      pub stored-longest : length (storedCard s clu kcv ksl vnd) ≤ 202
+      unfolding storedCard
+      stored-longest = is-short value all-in-form
+
+      pub stored-short : length (storedCard s clu kcv ksl vnd) ≤ 256
+      stored-short = omega (arith, stored-longest)
+
+      -- passes the test of a card as stored,
+      pub stored-passes : isStored (inRow (storedCard s clu kcv ksl vnd)) ≡ true
+      unfolding storedCard
+      stored-passes = is-stored value all-in-form
+
+      -- is text, so that a PTVD string can hold it,
+      pub stored-text : areAll Text (storedCard s clu kcv ksl vnd) ≡ true
+      unfolding storedCard
+      stored-text = is-text value all-in-form
+
+      -- stands in its row up to the first zero,
+      pub stored-measured : take (run (isNot 0) (inRow (storedCard s clu kcv ksl vnd))) (inRow (storedCard s clu kcv ksl vnd)) ≡ storedCard s clu kcv ksl vnd
+      unfolding storedCard
+      stored-measured = is-measured value all-in-form
+
+      -- and each name reads back its value, in the row and in the card alone
+      module _ (k : ℕ) (x : Attribute) (r : List Attribute) (e : drop k table ≡ x ∷ r) where
+        pub stored-back : valueOf (name x) (inRow (storedCard s clu kcv ksl vnd)) ≡ some (value (name x))
+        unfolding storedCard
+        stored-back = reads-row value all-in-form k x r e
+
+        pub card-back : valueOf (name x) (storedCard s clu kcv ksl vnd) ≡ some (value (name x))
+        unfolding storedCard
+        card-back = reads-card value all-in-form k x r e
+
+        -- a required one as the incoming card had it
+        module _ (q : presence x ≡ Required) where
+          kept : some (value (name x)) ≡ valueOf (name x) s
+          kept =
+              ap some (from-card s clu kcv ksl vnd (name x) (rw q at (at-row (λ (y : Attribute). isIncomings (presence y) (name y)) table all-incomings k x r e)))
+              ∙ sym (required-own k x r e q)
+
+          pub required-back : valueOf (name x) (inRow (storedCard s clu kcv ksl vnd)) ≡ valueOf (name x) s
+          required-back = stored-back ∙ kept
+
+          pub required-card-back : valueOf (name x) (storedCard s clu kcv ksl vnd) ≡ valueOf (name x) s
+          required-card-back = card-back ∙ kept
+
+      -- SGC, KRN and KSL
+      pub sgc-back : valueOf SGC (inRow (storedCard s clu kcv ksl vnd)) ≡ valueOf SGC s
+      unfolding table
+      sgc-back = required-back 12 (SGC, Required, Digits 10) _ refl refl
+
+      pub krn-back : valueOf KRN (inRow (storedCard s clu kcv ksl vnd)) ≡ valueOf KRN s
+      unfolding table
+      krn-back = required-back 8 (KRN, Required, Number 1 1 9) _ refl refl
+
+      pub ksl-back : valueOf KSL (inRow (storedCard s clu kcv ksl vnd)) ≡ some ksl
+      unfolding table storedValue
+      ksl-back = stored-back 9 (KSL, Engine, Name) _ refl
+
+      pub sgc-card-back : valueOf SGC (storedCard s clu kcv ksl vnd) ≡ valueOf SGC s
+      unfolding table
+      sgc-card-back = required-card-back 12 (SGC, Required, Digits 10) _ refl refl
+
+      pub krn-card-back : valueOf KRN (storedCard s clu kcv ksl vnd) ≡ valueOf KRN s
+      unfolding table
+      krn-card-back = required-card-back 8 (KRN, Required, Number 1 1 9) _ refl refl
+
+      pub ksl-card-back : valueOf KSL (storedCard s clu kcv ksl vnd) ≡ some ksl
+      unfolding table storedValue
+      ksl-card-back = card-back 9 (KSL, Engine, Name) _ refl
+
+      -- with a VND of one digit, as a load writes it, the card has at most 194 bytes
+      module _ (l : length vnd ≤ 1) where
+        abbrev longest : Attribute → ℕ
+        longest x = cond (eqb (name x) VND) 1 (most (form x))
+
+        value-within : (k : ℕ) (x : Attribute) (r : List Attribute) → drop k table ≡ x ∷ r → (t : Bool) → eqb (name x) VND ≡ t → length (value (name x)) ≤ cond t 1 (most (form x))
+        unfolding storedValue
+        value-within k x r e true q = rw (eqb-true (name x) VND q) l
+        value-within k x r e false q = value-short value all-in-form k x r e
+
+        pub loaded-longest : length (storedCard s clu kcv ksl vnd) ≤ 194
+        unfolding storedCard table
+        loaded-longest =
+            let w : T (allRows (isWithin value longest) table) = all-rows (isWithin value longest) table (λ k x r e. le→leb (length (value (name x))) (longest x) (value-within k x r e (eqb (name x) VND) refl)) in
+            let n : length (cardBytes table value) ≤ room longest table = fits-room value longest table w in
+            omega arith

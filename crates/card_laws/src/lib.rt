@@ -1,0 +1,1 @@
+// Theorems about cards: what is written of an incoming card is a card as stored and reads back (proofs/RoundTrip, proofs/Incoming). No code.

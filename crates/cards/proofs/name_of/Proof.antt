@@ -1,0 +1,31 @@
+-- `cards::name_of` meets its contract, a law a return.
+use Rattle.cards.proofs.EntryLaws.{nameCases}
+use borrow.Author.Needs.{needs}
+use Rattle.cards.proofs.name_of.Statement.{statement}
+use Rattle.cards.proofs.name_of.Tie as tie
+
+pub name-of-spec : {M : Type 1} → statement M
+name-of-spec =
+    tie.close
+    (tie.spec
+    (λ c. search nameCases)
+    (λ c. search needs)
+    (λ c κs. search needs)
+    (λ c. search nameCases)
+    (λ c. search needs)
+    (λ c κs. search needs)
+    (λ c. search nameCases)
+    (λ c. search needs)
+    (λ c κs. search needs)
+    (λ c. search nameCases)
+    (λ c. search needs)
+    (λ c κs. search needs)
+    (λ c. search needs)
+    (λ c. search needs)
+    (λ c κs. search needs)
+    (λ c. search needs)
+    (λ c. search needs)
+    (λ c. search needs)
+    (λ c κs. search needs)
+    (λ c. search needs)
+    (λ c. search nameCases))

@@ -1,0 +1,54 @@
+-- A card, a term of document 01 (Cards): entries, each a name of three capitals, a value and a semicolon. Its pieces at ; (59) are the entries.
+use Prim.Native.Nat.{ℕ, _+_, _*_, _-_, _/_, _%_, _≤_}
+use mathlib.Core.Bool.{cond, _&&_}
+use mathlib.Core.List.{List, [], _∷_, _++_}
+use mathlib.Core.Option.{Option, none, some}
+use lib.Dec.{eqb}
+use lib.ListN.{getD, take, drop}
+use Rattle.pieces.specs.Pieces.{pieces}
+use Rattle.text.specs.Classes.{isOf}
+use Rattle.text.specs.declared.Class.the-variants.{Capital}
+use Rattle.cards.specs.declared.Found.{Found}
+use Rattle.cards.specs.declared.Found.the-variants.{At, Nothing}
+
+-- the name of an entry as a number, its first letter highest; 0 where the entry has none
+unfoldable pub nameOf : List ℕ → ℕ
+nameOf p =
+    cond (isOf Capital (getD p 0 0) && (isOf Capital (getD p 1 0) && isOf Capital (getD p 2 0)))
+    (getD p 0 0 * 65536 + getD p 1 0 * 256 + getD p 2 0)
+    0
+
+-- the value under a name among entries
+abbrev pub valueIn : ℕ → List (List ℕ) → Option (List ℕ)
+valueIn n [] = none
+valueIn n (p ∷ ps) = cond (eqb (nameOf p) n) (some (drop 3 p)) (valueIn n ps)
+
+-- the value under a name in a card; 0 is no name
+unfoldable pub valueOf : ℕ → List ℕ → Option (List ℕ)
+valueOf n card = cond (eqb n 0) none (valueIn n (pieces 59 card))
+
+-- what stands between the bounds that a search found
+abbrev pub between : List ℕ → Found → Option (List ℕ)
+between card (At start end) = some (take (end - start) (drop start card))
+between card Nothing = none
+
+-- the bounds lie within n bytes
+abbrev pub Within : ℕ → Found → Type 0
+Within n (At start end) = (start ≤ end) × (end ≤ n)
+Within n Nothing = Unit
+
+-- a value, and where there is none the other
+abbrev pub orElse : Option (List ℕ) → List ℕ → List ℕ
+orElse (some v) w = v
+orElse none w = w
+
+-- the value under a name in one card, where it is absent in the other, and where it is absent in both no byte
+unfoldable pub valueOr : ℕ → List ℕ → List ℕ → List ℕ
+valueOr n card other = orElse (valueOf n card) (orElse (valueOf n other) [])
+
+-- an entry as it is written
+abbrev pub nameBytes : ℕ → List ℕ
+nameBytes n = n / 65536 ∷ n / 256 % 256 ∷ n % 256 ∷ []
+
+unfoldable pub entryBytes : ℕ → List ℕ → List ℕ
+entryBytes n v = nameBytes n ++ (v ++ (59 ∷ []))

@@ -1,0 +1,20 @@
+-- `incoming_cards::fits` meets its contract, a law a return.
+use Rattle.incoming_cards.proofs.IncomingLaws.{fitsCases}
+use borrow.Author.Needs.{needs}
+use Rattle.incoming_cards.proofs.fits.Statement.{statement}
+use Rattle.incoming_cards.proofs.fits.Tie as tie
+
+pub fits-spec : {M : Type 1} → statement M
+fits-spec =
+    tie.close
+    (tie.spec
+    (λ c. search needs)
+    (λ c κs. search needs)
+    (λ c. search needs)
+    (λ c κs. search needs)
+    (λ c. search needs)
+    (λ c. search fitsCases)
+    (λ c κs. search needs)
+    (λ c. search fitsCases)
+    (λ c. search fitsCases)
+    (λ c. search fitsCases))

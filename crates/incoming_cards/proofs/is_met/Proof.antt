@@ -1,0 +1,20 @@
+-- `incoming_cards::is_met` meets its contract, a law a return.
+use Rattle.incoming_cards.proofs.IncomingLaws.{metCases}
+use borrow.Author.Needs.{needs}
+use Rattle.incoming_cards.proofs.is_met.Statement.{statement}
+use Rattle.incoming_cards.proofs.is_met.Tie as tie
+
+pub is-met-spec : {M : Type 1} → statement M
+is-met-spec =
+    tie.close
+    (tie.spec
+    (λ c. search needs)
+    (λ c κs. search needs)
+    (λ c. search needs)
+    (λ c. search needs)
+    (λ c. search needs)
+    (λ c. search needs)
+    (λ c. search metCases)
+    (λ c. search metCases)
+    (λ c. search metCases)
+    (λ c. search metCases))
