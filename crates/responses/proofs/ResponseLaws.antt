@@ -25,8 +25,8 @@ use Rattle.frames.specs.Frames.{endsInReturn, isChecked, textOf, headerOf, payl
 use Rattle.frames.proofs.FrameLaws.{answered-length}
 use Rattle.responses.specs.Responses.{responseBytes, statusOf, fieldsOf, Says}
 
--- a text of printable bytes, framed
-module _ (s : List ℕ) (p : areAll Printable s ≡ true) where
+-- a text, framed
+module _ (s : List ℕ) where
   five : length (ending s) ≡ 5
   unfolding ending sumDigits
   five = refl
@@ -35,6 +35,14 @@ module _ (s : List ℕ) (p : areAll Printable s ≡ true) where
   unfolding framed
   size = length-append s (ending s) ∙ ap (λ (k : ℕ). length s + k) five
 
+  pub framed-text : textOf (framed s) ≡ s
+  unfolding textOf framed
+  framed-text =
+      let m : length s + 5 - 5 ≡ length s = omega arith in
+      ap (λ (k : ℕ). take (k - 5) (s ++ ending s)) size ∙ rw m (take-at s (ending s) (length s) refl)
+
+-- a text of printable bytes, framed
+module _ (s : List ℕ) (p : areAll Printable s ≡ true) where
   -- its only carriage return is its last byte
   pub framed-returns : endsInReturn (framed s) ≡ true
   unfolding endsInReturn framed ending hexDigit
@@ -55,40 +63,23 @@ module _ (s : List ℕ) (p : areAll Printable s ≡ true) where
       let m : length (s ++ d) + 1 - 1 ≡ length (s ++ d) = omega arith in
       rw (a, n, m, take-at (s ++ d) (13 ∷ []) (length (s ++ d)) refl, le-leb 1 (length (s ++ d) + 1) (omega arith)) (sum-ends Arc s (printable-bytes s p))
 
-  pub framed-text : textOf (framed s) ≡ s
-  unfolding textOf framed
-  framed-text =
-      let m : length s + 5 - 5 ≡ length s = omega arith in
-      ap (λ (k : ℕ). take (k - 5) (s ++ ending s)) size ∙ rw m (take-at s (ending s) (length s) refl)
-
 -- a request reads back as its header and payload
-module _ (h p : List ℕ) (n : length h ≡ 5) (a : areAll Printable (h ++ p) ≡ true) where
+module _ (h p : List ℕ) (n : length h ≡ 5) where
   pub request-header : headerOf (requestBytes h p) ≡ h
   unfolding headerOf requestBytes
-  request-header = rw (framed-text (h ++ p) a) (take-at h p 5 n)
+  request-header = rw (framed-text (h ++ p)) (take-at h p 5 n)
 
   pub request-payload : payloadOf (requestBytes h p) ≡ p
   unfolding payloadOf requestBytes
-  request-payload = rw (framed-text (h ++ p) a) (drop-at h p 5 n)
+  request-payload = rw (framed-text (h ++ p)) (drop-at h p 5 n)
 
--- THE LAW of demand 2: every response written reads back as its own header, status and fields: for each header of five printable characters, GL!ER among them,
--- each status of two, and all fields that PTVD can carry
-module _ (header status : List ℕ) (fields : List Value) (five : length header ≡ 5) (two : length status ≡ 2) (h : areAll Printable header ≡ true) (p : areAll Printable status ≡ true) (v : areValues fields ≡ true) where
+-- a response reads back as its header and status, and as its fields, where PTVD can carry them
+module _ (header status : List ℕ) (fields : List Value) (five : length header ≡ 5) (two : length status ≡ 2) where
   abbrev text : List ℕ
   text = headBytes header status ++ payloadBytes fields
 
-  answered-printable : allOf (isOf Printable) (answered header) ≡ true
-  unfolding areAll answered
-  answered-printable =
-      all-append (isOf Printable) (take 2 header) (33 ∷ drop 3 header) (all-take (isOf Printable) 2 header h) (rw (all-drop (isOf Printable) 3 header h))
-
   answered-five : length (answered header) ≡ 5
   answered-five = answered-length header (omega arith) ∙ five
-
-  text-printable : areAll Printable text ≡ true
-  unfolding areAll headBytes
-  text-printable =
-      all-append (isOf Printable) (answered header ++ status) (payloadBytes fields) (all-append (isOf Printable) (answered header) status answered-printable p) (payload-printable fields v)
 
   head-seven : length (headBytes header status) ≡ 7
   unfolding headBytes
@@ -98,14 +89,38 @@ module _ (header status : List ℕ) (fields : List Value) (five : length header 
   unfolding headBytes
   parted = append-assoc (answered header) status (payloadBytes fields)
 
+  pub response-header : headerOf (responseBytes header status fields) ≡ answered header
+  unfolding responseBytes headerOf
+  response-header = rw (framed-text text, parted) (take-at (answered header) (status ++ payloadBytes fields) 5 answered-five)
+
+  pub response-status : statusOf (responseBytes header status fields) ≡ status
+  unfolding responseBytes statusOf
+  response-status = rw (framed-text text, parted, drop-at (answered header) (status ++ payloadBytes fields) 5 answered-five) (take-at status (payloadBytes fields) 2 two)
+
+  pub response-fields : areValues fields ≡ true → fieldsOf (responseBytes header status fields) ≡ fields
+  unfolding responseBytes fieldsOf
+  response-fields v = rw (framed-text text, drop-at (headBytes header status) (payloadBytes fields) 7 head-seven) (payload-read fields v)
+
+-- THE LAW of demand 2: every response written reads back as its own header, status and fields: for each header of five printable characters, GL!ER among them,
+-- each status of two, and all fields that PTVD can carry
+module _ (header status : List ℕ) (fields : List Value) (five : length header ≡ 5) (two : length status ≡ 2) (h : areAll Printable header ≡ true) (p : areAll Printable status ≡ true) (v : areValues fields ≡ true) where
+  answered-printable : allOf (isOf Printable) (answered header) ≡ true
+  unfolding areAll answered
+  answered-printable =
+      all-append (isOf Printable) (take 2 header) (33 ∷ drop 3 header) (all-take (isOf Printable) 2 header h) (rw (all-drop (isOf Printable) 3 header h))
+
+  text-printable : areAll Printable (headBytes header status ++ payloadBytes fields) ≡ true
+  unfolding areAll headBytes
+  text-printable =
+      all-append (isOf Printable) (answered header ++ status) (payloadBytes fields) (all-append (isOf Printable) (answered header) status answered-printable p) (payload-printable fields v)
+
   pub response-reads : Says (responseBytes header status fields) (answered header) status fields
-  unfolding responseBytes headerOf statusOf fieldsOf
+  unfolding responseBytes
   response-reads =
       record {
-        returns = framed-returns text text-printable;
-        checked = framed-checked text text-printable;
-        header-is = rw (framed-text text text-printable, parted) (take-at (answered header) (status ++ payloadBytes fields) 5 answered-five);
-        status-is =
-            rw (framed-text text text-printable, parted, drop-at (answered header) (status ++ payloadBytes fields) 5 answered-five) (take-at status (payloadBytes fields) 2 two);
-        fields-are = rw (framed-text text text-printable, drop-at (headBytes header status) (payloadBytes fields) 7 head-seven) (payload-read fields v);
+        returns = framed-returns (headBytes header status ++ payloadBytes fields) text-printable;
+        checked = framed-checked (headBytes header status ++ payloadBytes fields) text-printable;
+        header-is = response-header header status fields five two;
+        status-is = response-status header status fields five two;
+        fields-are = response-fields header status fields five two v;
       }

@@ -1,0 +1,146 @@
+-- What every answer keeps to: eighteen yeses are acceptance, a refusal changes no row, SM?KR no register, and status 28 needs full registers.
+use mathlib.Core.Path.{_≡_, refl, sym, ap, _∙_}
+use mathlib.Core.Logic.{_⊎_, inl, inr, _↔_}
+use mathlib.Core.Bool.{Bool, true, false, cond, _&&_, _||_}
+use mathlib.Core.List.{List, [], _∷_}
+use mathlib.Core.Option.{Option, none, some}
+use Prim.Native.Nat.{ℕ, _+_}
+use lib.Dec.{eqb}
+use Rattle.octets.proofs.Flags.{nope, and-first, and-second, or-cases}
+use Rattle.fields.specs.Values.{Value}
+use Rattle.commands.specs.declared.Command.{Command}
+use Rattle.commands.specs.declared.Command.the-variants.{RS, KC, KR, KL, KF, KX, KD, GA, GL, KQ, Unknown}
+use Rattle.rows.specs.Lists.{someRow, firstFrom}
+use Rattle.rows.specs.Registers.{isVacant, isKeyOf}
+use Rattle.rows.specs.declared.RegisterRow.{RegisterRow}
+use Rattle.engine.specs.Refusals.{refusal}
+use Rattle.engine.specs.Requests.{isAmong, commandIn, fieldsIn, recordIn, slotIn, cardIn}
+use Rattle.engine.specs.Questions.{Call, Question, _otherwise_, asked, isPlace, placeElse, keyPlace, vacantPlace, storePlace, groupIn, revisionIn, questions, firstNo}
+use Rattle.engine.specs.Answers.{answered, effect, refused, answerTo, answerOf}
+use Rattle.engine.specs.declared.Refusal.{Refusal}
+use Rattle.engine.specs.declared.Refusal.the-variants.{NoFreeRegister}
+use Rattle.engine.specs.declared.Outcome.{Outcome}
+use Rattle.engine.specs.declared.Outcome.the-variants.{Accepted, Done, Refused}
+use Rattle.engine.proofs.QuestionLaws.{AllYes, all-yes}
+
+abbrev pub isYes : Outcome → Bool
+isYes (Accepted a) = true
+isYes Done = true
+isYes (Refused r) = false
+
+yes-all : (qs : List Question) → AllYes qs → firstNo qs ≡ none
+yes-all [] y = refl
+yes-all ((b otherwise r) ∷ qs) y = rw (y .0) (yes-all qs (y .1))
+
+effect-yes : (x : Call) (c : Command) (vs : List Value) (r s : List ℕ) → isYes (effect x c vs r s .outcome) ≡ true
+unfolding answered
+effect-yes x RS vs r s = refl
+effect-yes x KC vs r s = refl
+effect-yes x KR vs r s = refl
+effect-yes x KL vs r s = refl
+effect-yes x KF vs r s = refl
+effect-yes x KX vs r s = refl
+effect-yes x KD vs r s = refl
+effect-yes x GA vs r s = refl
+effect-yes x GL vs r s = refl
+effect-yes x KQ vs r s = refl
+effect-yes x Unknown vs r s = refl
+
+module _ (x : Call) where
+  abbrev c : Command
+  c = commandIn (x .request)
+
+  abbrev vs : List Value
+  vs = fieldsIn (x .request)
+
+  -- an answer is accepted exactly when every question that applies is a yes
+  pub accepted-exactly : (isYes (answerOf x .outcome) ≡ true) ↔ AllYes (questions x)
+  unfolding answerOf refused
+  accepted-exactly = (λ e. go (firstNo (questions x)) refl e, λ y. rw (yes-all (questions x) y) (effect-yes x c vs (recordIn c vs) (slotIn c vs)))
+    where
+      go : (o : Option Refusal) → firstNo (questions x) ≡ o → isYes (answerTo x o c vs .outcome) ≡ true → AllYes (questions x)
+      go (some r) q e = nope (cc)
+      go none q e = all-yes (questions x) q
+
+  -- the first no decides
+  pub first-no-decides : (r : Refusal) → firstNo (questions x) ≡ some r → answerOf x .outcome ≡ Refused r
+  unfolding answerOf refused
+  first-no-decides r e = rw e refl
+
+  pub refused-by : (r : Refusal) → answerOf x .outcome ≡ Refused r → firstNo (questions x) ≡ some r
+  unfolding answerOf refused
+  refused-by r e = go (firstNo (questions x)) e
+    where
+      go : (o : Option Refusal) → answerTo x o c vs .outcome ≡ Refused r → o ≡ some r
+      go (some q) w = cc
+      go none w = let y = effect-yes x c vs (recordIn c vs) (slotIn c vs) in nope (cc)
+
+  -- a refusal leaves every row as it was
+  pub refused-keeps : (r : Refusal) → answerOf x .outcome ≡ Refused r → (answerOf x .slots ≡ x .slots) × (answerOf x .registers ≡ x .registers)
+  unfolding answerOf refused
+  refused-keeps r e = let w = refused-by r e in (rw w refl, rw w refl)
+
+  -- SM?KR changes no register
+  pub kr-keeps : commandIn (x .request) ≡ KR → answerOf x .registers ≡ x .registers
+  unfolding answerOf refused answered
+  kr-keeps e = go (firstNo (questions x)) (commandIn (x .request)) e
+    where
+      go : (o : Option Refusal) (d : Command) → d ≡ KR → answerTo x o d vs .registers ≡ x .registers
+      go (some r) d q = refl
+      go none d q = rw q refl
+
+-- a question that was not a yes has the refusal of the first no
+abbrev allHold : (Refusal → Bool) → List Question → Bool
+allHold f [] = true
+allHold f ((b otherwise r) ∷ qs) = cond (f r) b true && allHold f qs
+
+held-not : (f : Refusal → Bool) (qs : List Question) (r : Refusal) → allHold f qs ≡ true → firstNo qs ≡ some r → f r ≡ false
+held-not f [] r h e = nope (cc)
+held-not f ((true otherwise q) ∷ qs) r h e = held-not f qs r (and-second (cond (f q) true true) (allHold f qs) h) e
+held-not f ((false otherwise q) ∷ qs) r h e = go (f q) refl (and-first (cond (f q) false true) (allHold f qs) h)
+  where
+    go : (b : Bool) → f q ≡ b → cond b false true ≡ true → f r ≡ false
+    go true w z = nope (cc)
+    go false w z = cc
+
+some-place : {A : Type 0} (f : A → Bool) (l : List A) (i : ℕ) → someRow f l ≡ true → isPlace (firstFrom f i l) ≡ true
+some-place f [] i e = nope (cc)
+some-place f (v ∷ l) i e = go (f v) e (some-place f l (i + 1))
+  where
+    go : (b : Bool) → (b || someRow f l) ≡ true → (someRow f l ≡ true → isPlace (firstFrom f (i + 1) l) ≡ true) → isPlace (cond b (some i) (firstFrom f (i + 1) l)) ≡ true
+    go true w more = refl
+    go false w more = more w
+
+either-place : (o p : Option ℕ) → (isPlace o ≡ true) ⊎ (isPlace p ≡ true) → isPlace (placeElse o p) ≡ true
+either-place (some i) p e = refl
+either-place none p (inl e) = nope (cc)
+either-place none p (inr e) = e
+
+asked-yes : (l : List Command) (d : Command) (b : Bool) → b ≡ true → asked l d b ≡ true
+asked-yes l d b e = go (isAmong d l)
+  where
+    go : (t : Bool) → cond t b true ≡ true
+    go true = e
+    go false = refl
+
+abbrev isTwenty : Refusal → Bool
+isTwenty r = eqb (refusal r .number) 20
+
+-- a register that holds the key, or a free one, means no refusal 20
+module _ (x : Call) where
+  abbrev card : List ℕ
+  card = cardIn (recordIn (commandIn (x .request)) (fieldsIn (x .request)))
+
+  pub no-refusal-20 : (someRow (isKeyOf (groupIn card) (revisionIn card)) (x .registers) || someRow isVacant (x .registers)) ≡ true → answerOf x .outcome ≡ Refused NoFreeRegister → ⊥
+  unfolding questions storePlace
+  no-refusal-20 h e =
+      let g = groupIn card in
+      let k = revisionIn card in
+      let y = asked-yes (KL ∷ []) (commandIn (x .request)) (isPlace (storePlace g k (x .registers))) (either-place (keyPlace g k (x .registers)) (vacantPlace (x .registers)) (places (or-cases (someRow (isKeyOf g k) (x .registers)) (someRow isVacant (x .registers)) h))) in
+      let w = held-not isTwenty (questions x) NoFreeRegister (rw y refl) (refused-by x NoFreeRegister e) in
+      nope (cc)
+    where
+      places : (someRow (isKeyOf (groupIn card) (revisionIn card)) (x .registers) ≡ true) ⊎ (someRow isVacant (x .registers) ≡ true)
+          → (isPlace (keyPlace (groupIn card) (revisionIn card) (x .registers)) ≡ true) ⊎ (isPlace (vacantPlace (x .registers)) ≡ true)
+      places (inl p) = inl (some-place (isKeyOf (groupIn card) (revisionIn card)) (x .registers) 0 p)
+      places (inr p) = inr (some-place isVacant (x .registers) 0 p)

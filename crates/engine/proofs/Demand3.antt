@@ -1,0 +1,36 @@
+-- DEMAND 3 of the engine: for every list of calls, from empty tables of all row counts, whatever the requests, supplements and buffers hold.
+use mathlib.Core.Path.{_≡_, refl, sym, _∙_}
+use mathlib.Core.List.{List, [], _∷_, _++_}
+use Prim.Native.Nat.{ℕ}
+use lib.ListN.{length, take, drop, replicate}
+use lib.Seq.{take-at}
+use Rattle.rows.specs.Slots.{freeSlot}
+use Rattle.rows.specs.Registers.{freeRegister}
+use Rattle.rows.proofs.ListLaws.{map-replicate}
+use Rattle.history.specs.History.{finally, trace}
+use Rattle.history.specs.Model.{Tables, Item, empty}
+use Rattle.history.specs.Step.{Step}
+use Rattle.history.specs.Demand3.{Demand3}
+use Rattle.history.proofs.Theorem as theorem
+use Rattle.engine.specs.Answers.{Answer, answerOf}
+use Rattle.engine.specs.Words.{slotIs, registerIs, tablesOf, Handed, Lent, callOf, rowsAfter, answerBytes, itemAt, emptyRows}
+use Rattle.engine.proofs.RowWords.{free-reads, free-register-reads}
+use Rattle.engine.proofs.Steps.{does}
+
+-- the first bytes of the buffer, as many as the response has, are the response
+answer-is : (a : Answer) (buffer : List ℕ) → answerBytes a buffer ≡ a .response
+answer-is a buffer = take-at (a .response) (drop (length (a .response)) buffer) (length (a .response)) refl
+
+abbrev rowsOf : Lent → Tables
+rowsOf t = tablesOf (t .slots) (t .registers)
+
+steps : (t : Lent) (e : Handed) → Step (rowsOf t) (itemAt t e) (rowsOf (rowsAfter t e))
+steps t e = rw (answer-is (answerOf (callOf t e)) (e .buffer)) (does (callOf t e) refl)
+
+starts-empty : (a b : ℕ) → rowsOf (emptyRows a b) ≡ empty a b
+unfolding emptyRows empty
+starts-empty a b = rw (map-replicate slotIs a freeSlot, map-replicate registerIs b freeRegister, free-reads, free-register-reads) refl
+
+pub demand3 : (a b : ℕ) (calls : List Handed)
+    → Demand3 (trace rowsAfter itemAt (emptyRows a b) calls) (rowsOf (finally rowsAfter itemAt (emptyRows a b) calls))
+demand3 a b calls = theorem.demand3 rowsAfter itemAt rowsOf steps (emptyRows a b) a b (starts-empty a b) calls

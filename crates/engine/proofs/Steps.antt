@@ -1,0 +1,297 @@
+-- Each answer of the engine is one of the steps of which demand 3 is proved.
+use mathlib.Core.Path.{_≡_, refl, sym, ap, _∙_}
+use mathlib.Core.Bool.{Bool, true, false, cond, not, _&&_, _||_}
+use mathlib.Core.List.{List, [], _∷_, _++_, map}
+use mathlib.Core.Option.{Option, none, some}
+use Prim.Native.Nat.{ℕ, zero, suc, _+_, _-_, _≤_, _<_}
+use native.Mathlib.Omega.{arith}
+use native.Mathlib.Numerals.{add-one}
+use lib.Dec.{eqb, leb}
+use lib.ListN.{length, getD, set, length-map}
+use borrow.Author.Tests.{leb-true, le-leb, eqb-true}
+use Rattle.octets.proofs.Flags.{nope, and-first, and-second, no, holds}
+use Rattle.text.specs.Classes.{areAll}
+use Rattle.timestamp.specs.Timestamps.{isTimestamp}
+use Rattle.text.specs.Identifiers.{isIdentifier}
+use Rattle.text.specs.declared.Class.the-variants.{Text}
+use Rattle.decimals.specs.Decimals.{isNumber, isUnpadded}
+use Rattle.fields.specs.Values.{Value, number, string, isValue, areValues}
+use Rattle.forms.specs.Forms.{inForm}
+use Rattle.forms.specs.declared.Form.the-variants.{Hex, HexSome}
+use Rattle.frames.specs.Frames.{isWhole, headerOf}
+use Rattle.responses.specs.Responses.{responseBytes, fieldsOf}
+use Rattle.responses.proofs.ResponseLaws.{response-fields}
+use Rattle.incoming_cards.specs.Incoming.{isIncoming}
+use Rattle.records.specs.Records.{field}
+use Rattle.identities.specs.Identities.{colon, nameIn, fingerprintIn, identityInForm}
+use Rattle.key_records.specs.KeyRecords.{bar, publicKeyInForm, responseInForm, keyInForm}
+use Rattle.stored_cards.specs.Stored.{inRow}
+use Rattle.card_laws.proofs.Incoming.{stored-text}
+use Rattle.commands.specs.declared.Command.{Command}
+use Rattle.commands.specs.declared.Command.the-variants.{RS, KC, KR, KL, KF, KX, KD, GA, GL, KQ, Unknown}
+use Rattle.attributes.specs.Table.{SGC, KRN, KSL}
+use Rattle.rows.specs.Lists.{everyRow}
+use Rattle.rows.specs.Slots.{stateNumber, hasState, isNamed, isSlotSound, freeSlot, filledSlot, movedSlot, resetSlot}
+use Rattle.rows.specs.Registers.{isVacant, attributeOf, freeRegister, filledRegister, withoutSlot}
+use Rattle.rows.specs.Sound.{areSound}
+use Rattle.rows.specs.Supplements.{isWellFormed, isIdentityRight, isLoadRequestRight, loadRequest}
+use Rattle.rows.specs.declared.SlotRow.{SlotRow}
+use Rattle.rows.specs.declared.RegisterRow.{RegisterRow}
+use Rattle.rows.specs.declared.SlotState.{SlotState}
+use Rattle.rows.specs.declared.SlotState.the-variants.{Free, Pending, Loading, Idle}
+use Rattle.rows.proofs.ListLaws.{map-set, map-sweep, every-true}
+use Rattle.history.specs.Model.{State, pending, loading, idle, used, free, vacant, key, kl, loaded, _⇒_, dropKey, dropSlot, stopped, reset}
+use Rattle.history.specs.Step.{Step, refuses, starts, responds, loads, finishes, deletes, clears, resets}
+use Rattle.engine.specs.Requests.{commandIn, fieldsIn, isBuilt, registerIn, recordIn, kmcIdentityIn, slotIn, cardIn, firstText, secondText}
+use Rattle.engine.specs.Questions.{Call, asked, areCounts, isPlace, slotPlace, sessionPlace, storePlace, slotNamed, placeIn, isFilled, groupIn, revisionIn, questions, questionsOf, firstNo}
+use Rattle.engine.specs.Answers.{Answer, accepted, slotsMoved, slotsOpened, slotsWithout, loadedCard, cardPlace, answered, effect, answerTo, answerOf}
+use Rattle.engine.specs.Answers as answers
+use Rattle.engine.specs.Words.{stateIn, slotIs, registerIs, tablesOf, requestOf, itemFor, isAccepted}
+use Rattle.engine.specs.declared.Refusal.{Refusal}
+use Rattle.engine.proofs.RowWords.{free-reads, slot-row, named-state, named-name, named-reads, sound-name, moved-reads, reset-reads, filled-reads, free-register-reads, filled-key, register-row, without-reads, loaded-reads}
+use Rattle.engine.proofs.QuestionLaws.{AllYes, all-yes}
+use Rattle.engine.proofs.AnswerWords.{header-five, accepted-said, refusal-said}
+use Rattle.engine.proofs.Places.{KnownAt, known-at, sound-at, SpotAt, spot-at, HomeAt, home-at}
+
+-- an answer to a call with the command c and the fields vs is a step
+abbrev pub Does : Call → Command → List Value → Answer → Type 0
+Does x c vs a = Step (tablesOf (x .slots) (x .registers)) (itemFor (requestOf c vs) (a .response)) (tablesOf (a .slots) (a .registers))
+
+-- what is known of an accepted request
+pub record Yes (x : Call) (c : Command) (vs : List Value) : Type 0 where
+  pub counts : areCounts (x .slotCount) (x .registerCount) ≡ true
+  pub sound : areSound (x .slots) (x .registers) ≡ true
+  pub supplement : isWellFormed (x .supplement) ≡ true
+  pub whole : isWhole (x .request) ≡ true
+  pub built : isBuilt c ≡ true
+  pub form : (asked (KC ∷ []) c (publicKeyInForm (recordIn c vs)) && (asked (KR ∷ []) c (responseInForm (recordIn c vs)) && asked (KL ∷ []) c (keyInForm (recordIn c vs)))) ≡ true
+  pub known : asked (KR ∷ KL ∷ KF ∷ KX ∷ KQ ∷ []) c (isPlace (slotPlace (slotIn c vs) (x .slots))) ≡ true
+  pub spot : asked (KC ∷ []) c (isPlace (sessionPlace (slotIn c vs) (x .slots))) ≡ true
+  pub state : (asked (KR ∷ []) c (hasState Pending (slotNamed (slotIn c vs) (x .slots))) && (asked (KL ∷ []) c (hasState Loading (slotNamed (slotIn c vs) (x .slots))) && asked (KF ∷ []) c (hasState Pending (slotNamed (slotIn c vs) (x .slots)) || hasState Loading (slotNamed (slotIn c vs) (x .slots))))) ≡ true
+  pub home : asked (KL ∷ []) c (isPlace (storePlace (groupIn (cardIn (recordIn c vs))) (revisionIn (cardIn (recordIn c vs))) (x .registers))) ≡ true
+  pub filled : asked (GA ∷ KD ∷ []) c (isFilled (registerIn vs) (x .registers)) ≡ true
+
+yes-of : (x : Call) → firstNo (questions x) ≡ none → Yes x (commandIn (x .request)) (fieldsIn (x .request))
+unfolding questions
+yes-of x e =
+    let y : AllYes (questions x) = all-yes (questions x) e in
+    record {
+      counts = y .0;
+      sound = y .1 .1 .0;
+      supplement = y .1 .1 .1 .0;
+      whole = y .1 .1 .1 .1 .0;
+      built = y .1 .1 .1 .1 .1 .1 .0;
+      form = y .1 .1 .1 .1 .1 .1 .1 .1 .1 .0;
+      known = y .1 .1 .1 .1 .1 .1 .1 .1 .1 .1 .1 .0;
+      spot = y .1 .1 .1 .1 .1 .1 .1 .1 .1 .1 .1 .1 .0;
+      state = y .1 .1 .1 .1 .1 .1 .1 .1 .1 .1 .1 .1 .1 .0;
+      home = y .1 .1 .1 .1 .1 .1 .1 .1 .1 .1 .1 .1 .1 .1 .1 .1 .1 .1 .1 .0;
+      filled = y .1 .1 .1 .1 .1 .1 .1 .1 .1 .1 .1 .1 .1 .1 .1 .1 .1 .1 .1 .1 .0;
+    }
+
+-- a refusal
+does-refused : (x : Call) (c : Command) (vs : List Value) (r : Refusal) → firstNo (questions x) ≡ some r → Does x c vs (answers.refused x r)
+unfolding answers.refused
+does-refused x c vs r e = rw (refusal-said x r e) (refuses (requestOf c vs))
+
+slots-sound : (x : Call) (c : Command) (vs : List Value) → Yes x c vs → everyRow isSlotSound (x .slots) ≡ true
+unfolding areSound
+slots-sound x c vs y = and-first (everyRow isSlotSound (x .slots)) _ (y .sound)
+
+-- status 00 under the request's header
+says-yes : (x : Call) (c : Command) (vs : List Value) → Yes x c vs → (fields : List Value) → isAccepted (responseBytes (headerOf (x .request)) accepted fields) ≡ true
+says-yes x c vs y fields = accepted-said (headerOf (x .request)) fields (header-five (x .request) (y .whole))
+
+-- the row of a slot that is known
+module _ (x : Call) (c : Command) (vs : List Value) (y : Yes x c vs) (k : KnownAt (x .slots) (slotIn c vs)) where
+  abbrev s : List ℕ
+  s = slotIn c vs
+
+  abbrev v : SlotRow
+  v = getD (x .slots) (k .place) freeSlot
+
+  row-sound : isSlotSound v ≡ true
+  row-sound = sound-at (x .slots) (slots-sound x c vs y) (k .place)
+
+  row-reads : getD (map slotIs (x .slots)) (k .place) free ≡ used s (stateIn (v .state))
+  row-reads = slot-row (x .slots) (k .place) ∙ named-reads v s (k .named)
+
+  row-is : slotNamed s (x .slots) ≡ v
+  unfolding slotNamed
+  row-is = rw (k .is) refl
+
+  row-identifier : isIdentifier s ≡ true
+  row-identifier = rw (named-name v s (k .named)) at (sound-name v row-sound (named-state v s (k .named)))
+
+  -- moved to another state
+  slots-moved : (a : SlotState) → eqb (stateNumber a) 0 ≡ false → map slotIs (slotsMoved a s (x .slots)) ≡ set (map slotIs (x .slots)) (k .place) (used s (stateIn (stateNumber a)))
+  slots-moved a o =
+      let m = moved-reads v row-sound a o (named-state v s (k .named)) in
+      let n = named-name v s (k .named) in
+      rw (row-is, k .is, map-set slotIs (x .slots) (k .place) (movedSlot a v), m, n) refl
+
+  slots-without : map slotIs (slotsWithout s (x .slots)) ≡ set (map slotIs (x .slots)) (k .place) free
+  unfolding slotsWithout
+  slots-without = rw (k .is, map-set slotIs (x .slots) (k .place) freeSlot, free-reads) refl
+
+-- the KMCID of a public key in form
+identity-name : (q : List ℕ) → identityInForm q ≡ true → isIdentifier (nameIn q) ≡ true
+unfolding identityInForm
+identity-name q e = and-first (isIdentifier (nameIn q)) _ (and-second (isIdentifier (field colon 1 q)) _ e)
+
+key-identity : (r : List ℕ) → publicKeyInForm r ≡ true → identityInForm (kmcIdentityIn r) ≡ true
+unfolding publicKeyInForm
+key-identity r e = and-first (identityInForm (kmcIdentityIn r)) _ e
+
+does-kc : (x : Call) (vs : List Value) → Yes x KC vs → Does x KC vs (effect x KC vs (recordIn KC vs) (slotIn KC vs))
+unfolding answered slotsOpened recordIn slotIn
+does-kc x vs y =
+    let q = kmcIdentityIn (firstText vs) in
+    let p = spot-at (x .slots) (x .registers) (nameIn q) (slots-sound x KC vs y) (y .spot) in
+    let i = identity-name q (key-identity (firstText vs) (and-first (publicKeyInForm (firstText vs)) _ (y .form))) in
+    let w = filled-reads Pending (nameIn q) (fingerprintIn q) (x .supplement .clock) refl i in
+    let m = map-set slotIs (x .slots) (p .place) (filledSlot Pending (nameIn q) (fingerprintIn q) (x .supplement .clock)) in
+    rw (says-yes x KC vs y, p .is, m, w) (starts (nameIn q) (p .place) (rw length-map (p .within)) (p .spot))
+
+does-kr : (x : Call) (vs : List Value) → Yes x KR vs → Does x KR vs (effect x KR vs (recordIn KR vs) (slotIn KR vs))
+unfolding answered
+does-kr x vs y =
+    let k = known-at (x .slots) (slotIn KR vs) (y .known) in
+    let w : eqb (v x KR vs y k .state) 1 ≡ true = rw (row-is x KR vs y k) at (and-first (hasState Pending (slotNamed (slotIn KR vs) (x .slots))) _ (y .state)) in
+    let e : getD (map slotIs (x .slots)) (k .place) free ≡ used (slotIn KR vs) pending = row-reads x KR vs y k ∙ rw w refl in
+    rw (says-yes x KR vs y, slots-moved x KR vs y k Loading refl) (responds (slotIn KR vs) (k .place) e)
+
+does-kf : (x : Call) (vs : List Value) → Yes x KF vs → Does x KF vs (effect x KF vs (recordIn KF vs) (slotIn KF vs))
+unfolding answered
+does-kf x vs y =
+    let k = known-at (x .slots) (slotIn KF vs) (y .known) in
+    rw (says-yes x KF vs y, slots-moved x KF vs y k Idle refl) (finishes (slotIn KF vs) (k .place) _ (row-reads x KF vs y k))
+
+-- what the registers say after SM?KX, and the slots after GL?RS
+kx-registers : (x : Call) (vs : List Value) → map registerIs (effect x KX vs (recordIn KX vs) (slotIn KX vs) .registers) ≡ map (dropKey (slotIn KX vs)) (map registerIs (x .registers))
+unfolding answered
+kx-registers x vs = map-sweep registerIs (λ (r : RegisterRow). true) (withoutSlot (slotIn KX vs)) (dropKey (slotIn KX vs)) (λ r e. without-reads (slotIn KX vs) r) (x .registers) (every-true (x .registers))
+
+rs-slots : (x : Call) (vs : List Value) → Yes x RS vs → map slotIs (effect x RS vs (recordIn RS vs) (slotIn RS vs) .slots) ≡ map stopped (map slotIs (x .slots))
+unfolding answered
+rs-slots x vs y = map-sweep slotIs isSlotSound resetSlot stopped reset-reads (x .slots) (slots-sound x RS vs y)
+
+does-kx : (x : Call) (vs : List Value) → Yes x KX vs → Does x KX vs (effect x KX vs (recordIn KX vs) (slotIn KX vs))
+unfolding answered dropSlot
+does-kx x vs y =
+    let k = known-at (x .slots) (slotIn KX vs) (y .known) in
+    rw (says-yes x KX vs y, slots-without x KX vs y k, kx-registers x vs) (deletes (slotIn KX vs) (k .place) _ (row-reads x KX vs y k))
+
+does-rs : (x : Call) (vs : List Value) → Yes x RS vs → Does x RS vs (effect x RS vs (recordIn RS vs) (slotIn RS vs))
+unfolding answered reset
+does-rs x vs y = rw (says-yes x RS vs y, rs-slots x vs y) resets
+
+-- a reply's register and card
+module _ (x : Call) (vs : List Value) (y : Yes x KL vs) (n : x .registerCount ≡ length (x .registers)) where
+  abbrev name : List ℕ
+  name = slotIn KL vs
+
+  abbrev card : List ℕ
+  card = cardIn (recordIn KL vs)
+
+  abbrev stored : List ℕ
+  stored = loadedCard card (x .supplement .check) name
+
+  slot-at : KnownAt (x .slots) name
+  slot-at = known-at (x .slots) name (y .known)
+
+  register-at : HomeAt (x .slots) (x .registers) (groupIn card) (revisionIn card)
+  register-at = home-at (x .slots) (x .registers) (groupIn card) (revisionIn card) (y .home)
+
+  is-name : isIdentifier name ≡ true
+  is-name = row-identifier x KL vs y slot-at
+
+  is-card : isIncoming card ≡ true
+  unfolding keyInForm
+  is-card = and-first (isIncoming card) _ (and-second (inForm HexSome (field bar 1 (recordIn KL vs))) _ (y .form))
+
+  is-check : inForm (Hex 6) (x .supplement .check) ≡ true
+  unfolding isWellFormed
+  is-check =
+      let z = x .supplement in
+      and-first (inForm (Hex 6) (z .check)) _ (and-second (inForm (Hex 48) (z .tag)) _ (and-second (isLoadRequestRight z) _ (and-second (isIdentityRight z) _ (and-second (isTimestamp (z .clock)) _ (y .supplement)))))
+
+  is-text : areAll Text stored ≡ true
+  unfolding loadedCard areAll isNumber isUnpadded
+  is-text = stored-text card is-card (48 ∷ []) (x .supplement .check) name (48 ∷ []) refl is-check is-name refl
+
+  is-reading : registerIs (filledRegister stored) ≡ key (groupIn card) (revisionIn card) name (inRow stored)
+  unfolding loadedCard
+  is-reading = loaded-reads card (x .supplement .check) name is-card is-check is-name
+
+  is-low : register-at .place + 1 ≤ 2147483647
+  unfolding areCounts
+  is-low =
+      let m = leb-true (x .registerCount) 32 (and-second (leb 1 (x .registerCount)) _ (and-second (leb (x .slotCount) 8) _ (and-second (leb 1 (x .slotCount)) _ (y .counts)))) in
+      omega (arith, n, register-at .within)
+
+  abbrev reply : List Value
+  reply = number (register-at .place + 1) ∷ string stored ∷ []
+
+  reply-reads : fieldsOf (responseBytes (headerOf (x .request)) accepted reply) ≡ reply
+  reply-reads = response-fields (headerOf (x .request)) accepted reply (header-five (x .request) (y .whole)) refl (rw (le-leb (register-at .place + 1) 2147483647 is-low, is-text) refl)
+
+  kl-registers : map registerIs (effect x KL vs (recordIn KL vs) name .registers) ≡ set (map registerIs (x .registers)) (register-at .place) (key (groupIn card) (revisionIn card) name (inRow stored))
+  unfolding answered cardPlace
+  kl-registers =
+      ap (λ (o : Option ℕ). map registerIs (set (x .registers) (placeIn (x .registers) o) (filledRegister stored))) (register-at .is)
+      ∙ map-set registerIs (x .registers) (register-at .place) (filledRegister stored)
+      ∙ ap (set (map registerIs (x .registers)) (register-at .place)) is-reading
+
+  kl-response : effect x KL vs (recordIn KL vs) name .response ≡ responseBytes (headerOf (x .request)) accepted reply
+  unfolding answered cardPlace
+  kl-response =
+      ap (λ (o : Option ℕ). responseBytes (headerOf (x .request)) accepted (number (placeIn (x .registers) o + 1) ∷ string stored ∷ [])) (register-at .is)
+
+  does-kl : Does x KL vs (effect x KL vs (recordIn KL vs) name)
+  unfolding answered cardPlace
+  does-kl =
+      let i = register-at .place in
+      let w : eqb (v x KL vs y slot-at .state) 2 ≡ true = rw (row-is x KL vs y slot-at) at (and-first (hasState Loading (slotNamed name (x .slots))) _ (y .state)) in
+      let o : eqb (v x KL vs y slot-at .state) 1 ≡ false = rw (eqb-true (v x KL vs y slot-at .state) 2 w) refl in
+      let e : getD (map slotIs (x .slots)) (slot-at .place) free ≡ used name loading = row-reads x KL vs y slot-at ∙ rw (o, w) refl in
+      rw (kl-registers, kl-response, says-yes x KL vs y, reply-reads, add-one)
+      (loads name (groupIn card) (revisionIn card) (inRow stored) (slot-at .place) i e (rw length-map (register-at .within)) (register-at .home))
+
+-- a register that is deleted
+module _ (x : Call) (vs : List Value) (y : Yes x KD vs) where
+  does-kd-of : (n : ℕ) → registerIn vs ≡ n → isFilled n (x .registers) ≡ true → Does x KD vs (effect x KD vs (recordIn KD vs) (slotIn KD vs))
+  unfolding answered isFilled
+  does-kd-of zero e f = nope (cc)
+  does-kd-of (suc i) e f =
+      let m : suc i - 1 ≡ i = omega arith in
+      let r = getD (x .registers) i freeRegister in
+      let g = rw m at (and-second (leb (suc i) (length (x .registers))) _ (and-second (leb 1 (suc i)) _ f)) in
+      let o : isVacant r ≡ false = no (isVacant r) (holds (not (isVacant r)) g) in
+      rw (says-yes x KD vs y, e, m, map-set registerIs (x .registers) i freeRegister, free-register-reads)
+      (clears i (attributeOf SGC r) (attributeOf KRN r) (attributeOf KSL r) (r .card) (register-row (x .registers) i ∙ filled-key r o))
+
+  does-kd : Does x KD vs (effect x KD vs (recordIn KD vs) (slotIn KD vs))
+  does-kd = does-kd-of (registerIn vs) refl (y .filled)
+
+does-effect : (x : Call) → x .registerCount ≡ length (x .registers) → (c : Command) (vs : List Value) → Yes x c vs → Does x c vs (effect x c vs (recordIn c vs) (slotIn c vs))
+does-effect x n RS vs y = does-rs x vs y
+does-effect x n KC vs y = does-kc x vs y
+does-effect x n KR vs y = does-kr x vs y
+does-effect x n KL vs y = does-kl x vs y n
+does-effect x n KF vs y = does-kf x vs y
+does-effect x n KX vs y = does-kx x vs y
+does-effect x n KD vs y = does-kd x vs y
+does-effect x n GA vs y = let z = y .built in nope (cc)
+does-effect x n GL vs y = let z = y .built in nope (cc)
+does-effect x n KQ vs y = let z = y .built in nope (cc)
+does-effect x n Unknown vs y = let z = y .built in nope (cc)
+
+-- THE STEP: every answer to every call
+pub does : (x : Call) → x .registerCount ≡ length (x .registers) → Does x (commandIn (x .request)) (fieldsIn (x .request)) (answerOf x)
+unfolding answerOf
+does x n = go (firstNo (questions x)) refl
+  where
+    go : (o : Option Refusal) → firstNo (questions x) ≡ o → Does x (commandIn (x .request)) (fieldsIn (x .request)) (answerTo x o (commandIn (x .request)) (fieldsIn (x .request)))
+    go (some r) e = does-refused x (commandIn (x .request)) (fieldsIn (x .request)) r e
+    go none e = does-effect x n (commandIn (x .request)) (fieldsIn (x .request)) (yes-of x e)

@@ -1,0 +1,106 @@
+-- The answer to a call: outcome, response and all rows after it (document 01, Slots and registers, Questions in order).
+use Prim.Native.Nat.{ℕ, _+_, _-_}
+use mathlib.Core.List.{List, [], _∷_, _++_, map}
+use mathlib.Core.Option.{Option, none, some}
+use lib.ListN.{length, set, drop}
+use Rattle.fields.specs.Values.{Value, number, string}
+use Rattle.frames.specs.Frames.{headerOf}
+use Rattle.responses.specs.Responses.{responseBytes}
+use Rattle.identities.specs.Identities.{fingerprintIn}
+use Rattle.stored_cards.specs.Stored.{storedCard}
+use Rattle.commands.specs.declared.Command.{Command}
+use Rattle.commands.specs.declared.Command.the-variants.{RS, KC, KR, KL, KF, KX, KD, GA, GL, KQ, Unknown}
+use Rattle.rows.specs.Slots.{freeSlot, filledSlot, movedSlot, resetSlot}
+use Rattle.rows.specs.Registers.{freeRegister, filledRegister, withoutSlot}
+use Rattle.rows.specs.Supplements.{loadRequest}
+use Rattle.rows.specs.declared.SlotRow.{SlotRow}
+use Rattle.rows.specs.declared.RegisterRow.{RegisterRow}
+use Rattle.rows.specs.declared.SlotState.{SlotState}
+use Rattle.rows.specs.declared.SlotState.the-variants.{Free, Pending, Loading, Idle}
+use Rattle.engine.specs.Refusals.{Header, silent, general, own, Told, refusal}
+use Rattle.engine.specs.Requests.{commandIn, fieldsIn, registerIn, recordIn, kmcIdentityIn, slotIn, cardIn}
+use Rattle.engine.specs.Questions.{Call, slotPlace, placeIn, sessionPlace, storePlace, slotNamed, groupIn, revisionIn, questions, firstNo}
+use Rattle.engine.specs.declared.Refusal.{Refusal}
+use Rattle.engine.specs.declared.Outcome.{Outcome}
+use Rattle.engine.specs.declared.Outcome.the-variants.{Accepted, Done, Refused}
+
+-- outcome, response bytes (none where nothing is written), and all rows after it
+pub record Answer : Type 0 where
+  pub outcome : Outcome
+  pub response : List ℕ
+  pub slots : List SlotRow
+  pub registers : List RegisterRow
+
+-- the response buffer afterwards: bytes beyond the response keep their value
+abbrev pub bufferAfter : Answer → List ℕ → List ℕ
+bufferAfter a buffer = a .response ++ drop (length (a .response)) buffer
+
+-- "GL!ER"
+abbrev pub errorHeader : List ℕ
+errorHeader = 71 ∷ 76 ∷ 33 ∷ 69 ∷ 82 ∷ []
+
+-- "00"
+abbrev pub accepted : List ℕ
+accepted = 48 ∷ 48 ∷ []
+
+-- a slot in another state, TVP cleared
+abbrev pub slotsMoved : SlotState → List ℕ → List SlotRow → List SlotRow
+slotsMoved a s rows = set rows (placeIn rows (slotPlace s rows)) (movedSlot a (slotNamed s rows))
+
+-- SM?KC: the slot of that KMCID, else the lowest free row, becomes PENDING with the record's fingerprint and the clock as TVP
+unfoldable pub slotsOpened : List ℕ → List ℕ → List ℕ → List SlotRow → List SlotRow
+slotsOpened s fingerprint clock rows = set rows (placeIn rows (sessionPlace s rows)) (filledSlot Pending s fingerprint clock)
+
+-- SM?KX: the row of the slot becomes free
+unfoldable pub slotsWithout : List ℕ → List SlotRow → List SlotRow
+slotsWithout s rows = set rows (placeIn rows (slotPlace s rows)) freeSlot
+
+-- the card that SM?KL stores: CLU and VND start at 0, KCV is the supplement's check value, KSL the slot's identifier
+unfoldable pub loadedCard : List ℕ → List ℕ → List ℕ → List ℕ
+loadedCard card check s = storedCard card (48 ∷ []) check s (48 ∷ [])
+
+-- where SM?KL stores the key of a card
+unfoldable pub cardPlace : List ℕ → List RegisterRow → ℕ
+cardPlace card rows = placeIn rows (storePlace (groupIn card) (revisionIn card) rows)
+
+-- the bytes of a refusal's response
+abbrev pub refusalBytes : List ℕ → Header → Told → List ℕ
+refusalBytes request silent t = []
+refusalBytes request general t = responseBytes errorHeader (t .status) (t .text)
+refusalBytes request own t = responseBytes (headerOf request) (t .status) (t .text)
+
+-- a refusal changes no row
+unfoldable pub refused : Call → Refusal → Answer
+refused x r =
+    record { outcome = Refused r; response = refusalBytes (x .request) (refusal r .header) (refusal r); slots = x .slots; registers = x .registers }
+
+-- an accepted answer: its outcome, its fields, and the rows after it
+unfoldable pub answered : Call → Outcome → List Value → List SlotRow → List RegisterRow → Answer
+answered x o fields slots registers =
+    record { outcome = o; response = responseBytes (headerOf (x .request)) accepted fields; slots = slots; registers = registers }
+
+-- what each command does: vs are its fields, r the record among them, s the slot that it names
+abbrev pub effect : Call → Command → List Value → List ℕ → List ℕ → Answer
+effect x RS vs r s = answered x Done [] (map resetSlot (x .slots)) (x .registers)
+effect x KC vs r s =
+    answered x (Accepted Pending) (string s ∷ string (loadRequest (x .supplement)) ∷ [])
+    (slotsOpened s (fingerprintIn (kmcIdentityIn r)) (x .supplement .clock) (x .slots)) (x .registers)
+effect x KR vs r s = answered x (Accepted Loading) (string s ∷ []) (slotsMoved Loading s (x .slots)) (x .registers)
+effect x KL vs r s =
+    answered x (Accepted Loading) (number (cardPlace (cardIn r) (x .registers) + 1) ∷ string (loadedCard (cardIn r) (x .supplement .check) s) ∷ []) (x .slots)
+    (set (x .registers) (cardPlace (cardIn r) (x .registers)) (filledRegister (loadedCard (cardIn r) (x .supplement .check) s)))
+effect x KF vs r s = answered x (Accepted Idle) [] (slotsMoved Idle s (x .slots)) (x .registers)
+effect x KX vs r s = answered x (Accepted Free) [] (slotsWithout s (x .slots)) (map (withoutSlot s) (x .registers))
+effect x KD vs r s = answered x Done [] (x .slots) (set (x .registers) (registerIn vs - 1) freeRegister)
+effect x GA vs r s = answered x Done [] (x .slots) (x .registers)
+effect x GL vs r s = answered x Done [] (x .slots) (x .registers)
+effect x KQ vs r s = answered x Done [] (x .slots) (x .registers)
+effect x Unknown vs r s = answered x Done [] (x .slots) (x .registers)
+
+-- all yes: the command is done; else it is refused by the first no
+abbrev pub answerTo : Call → Option Refusal → Command → List Value → Answer
+answerTo x (some r) c vs = refused x r
+answerTo x none c vs = effect x c vs (recordIn c vs) (slotIn c vs)
+
+unfoldable pub answerOf : Call → Answer
+answerOf x = answerTo x (firstNo (questions x)) (commandIn (x .request)) (fieldsIn (x .request))

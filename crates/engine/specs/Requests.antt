@@ -1,0 +1,128 @@
+-- What a request says: its command, the fields of its payload, and what they name (document 01, Slots and registers; 001 clauses 6.2.7 and 6.3).
+use Prim.Native.Nat.{ℕ}
+use mathlib.Core.Bool.{Bool, true, false, cond, _&&_, _||_}
+use mathlib.Core.List.{List, [], _∷_}
+use lib.Dec.{eqb}
+use lib.ListN.{getD}
+use Rattle.fields.specs.Values.{Value, number, string, date, octets, bad, valuesOf}
+use Rattle.records.specs.Records.{field}
+use Rattle.identities.specs.Identities.{nameIn}
+use Rattle.key_records.specs.KeyRecords.{bar}
+use Rattle.commands.specs.Commands.{commandOf}
+use Rattle.commands.specs.declared.Command.{Command}
+use Rattle.commands.specs.declared.Command.the-variants.{RS, KC, KR, KL, KF, KX, KD, GA, GL, KQ, Unknown}
+use Rattle.frames.specs.Frames.{headerOf, payloadOf}
+
+abbrev commandNumber : Command → ℕ
+commandNumber RS = 0
+commandNumber KC = 1
+commandNumber KR = 2
+commandNumber KL = 3
+commandNumber KF = 4
+commandNumber KX = 5
+commandNumber KD = 6
+commandNumber GA = 7
+commandNumber GL = 8
+commandNumber KQ = 9
+commandNumber Unknown = 10
+
+-- the command is one of those listed
+abbrev pub isAmong : Command → List Command → Bool
+isAmong c [] = false
+isAmong c (d ∷ ds) = eqb (commandNumber c) (commandNumber d) || isAmong c ds
+
+abbrev pub commandIn : List ℕ → Command
+commandIn request = commandOf (headerOf request)
+
+abbrev pub fieldsIn : List ℕ → List Value
+fieldsIn request = valuesOf (payloadOf request)
+
+-- the commands that are built; the header of another is none of those answered
+abbrev pub isBuilt : Command → Bool
+isBuilt c = isAmong c (RS ∷ KC ∷ KR ∷ KL ∷ KF ∷ KX ∷ KD ∷ [])
+
+-- types of fields
+abbrev isText : Value → Bool
+isText (number n) = false
+isText (string s) = true
+isText (date d) = false
+isText (octets h) = false
+isText bad = false
+
+abbrev isCount : Value → Bool
+isCount (number n) = true
+isCount (string s) = false
+isCount (date d) = false
+isCount (octets h) = false
+isCount bad = false
+
+abbrev none : List Value → Bool
+none [] = true
+none (v ∷ vs) = false
+
+abbrev one : (Value → Bool) → List Value → Bool
+one f [] = false
+one f (v ∷ vs) = f v && none vs
+
+abbrev two : (Value → Bool) → List Value → Bool
+two f [] = false
+two f (v ∷ vs) = f v && one f vs
+
+-- the fields of a payload are those of the command, nothing over: RS and GL have none, KD and GA a number, KL two strings, the others one
+unfoldable pub areFieldsOf : Command → List Value → Bool
+areFieldsOf c vs =
+    cond (isAmong c (RS ∷ GL ∷ [])) (none vs)
+    (cond (isAmong c (KD ∷ GA ∷ [])) (one isCount vs) (cond (isAmong c (KL ∷ [])) (two isText vs) (one isText vs)))
+
+abbrev textOf : Value → List ℕ
+textOf (number n) = []
+textOf (string s) = s
+textOf (date d) = []
+textOf (octets h) = []
+textOf bad = []
+
+abbrev countOf : Value → ℕ
+countOf (number n) = n
+countOf (string s) = 0
+countOf (date d) = 0
+countOf (octets h) = 0
+countOf bad = 0
+
+-- the first field, and the second, as text
+abbrev pub firstText : List Value → List ℕ
+firstText vs = textOf (getD vs 0 bad)
+
+abbrev pub secondText : List Value → List ℕ
+secondText vs = textOf (getD vs 1 bad)
+
+-- the register that KD and GA name
+abbrev pub registerIn : List Value → ℕ
+registerIn vs = countOf (getD vs 0 bad)
+
+-- the record that a command brings: KL in its second field, KC and KR in their only one
+unfoldable pub recordIn : Command → List Value → List ℕ
+recordIn c vs = cond (isAmong c (KL ∷ [])) (secondText vs) (firstText vs)
+
+-- the KMC identity in a record of KC or KR, and the module identity in one of KR
+abbrev pub kmcIdentityIn : List ℕ → List ℕ
+kmcIdentityIn r = field bar 1 r
+
+abbrev pub moduleIdentityIn : List ℕ → List ℕ
+moduleIdentityIn r = field bar 2 r
+
+-- the slot that a command names: KC and KR by the KMCID of their KMC identity, the others by their slot field
+unfoldable pub slotIn : Command → List Value → List ℕ
+slotIn c vs = cond (isAmong c (KC ∷ KR ∷ [])) (nameIn (kmcIdentityIn (firstText vs))) (firstText vs)
+
+-- the expiry of a public key; TVP and tag of a response; the card of a wrapped key
+abbrev pub expiryIn : List ℕ → List ℕ
+expiryIn r = field bar 3 r
+
+abbrev pub tvpIn : List ℕ → List ℕ
+tvpIn r = field bar 3 r
+
+abbrev pub tagIn : List ℕ → List ℕ
+tagIn r = field bar 4 r
+
+abbrev pub cardIn : List ℕ → List ℕ
+cardIn r = field bar 2 r

@@ -1,0 +1,217 @@
+-- The rows are sound, and every step keeps them so.
+use mathlib.Core.Path.{_≡_, refl, sym, ap, subst, _∙_}
+use mathlib.Core.Logic.{_⊎_, inl, inr, _≢_}
+use mathlib.Core.Bool.{Bool, true, false, cond}
+use mathlib.Core.List.{List, [], _∷_, map}
+use Prim.Native.Nat.{ℕ, zero, suc, _<_, _≤_}
+use native.Mathlib.Omega.{arith}
+use lib.ListN.{getD, set, length, List·getD-map}
+use Rattle.octets.proofs.Flags.{nope}
+use Rattle.octets.specs.Strings.{sameBytes}
+use Rattle.octets.proofs.StringLaws.{same-equal, same-self}
+use Rattle.history.proofs.Rows.{clash, within, Stored, new, old, stored, getD-none}
+use Rattle.history.specs.Step.{Spot, own, fresh, Home, held, spare, Step, refuses, reads, starts, responds, loads, finishes, deletes, clears, resets}
+use Rattle.history.specs.Model.{
+  State,
+  pending,
+  loading,
+  idle,
+  Slot,
+  free,
+  used,
+  Register,
+  vacant,
+  key,
+  Tables,
+  Request,
+  Item,
+  slotRow,
+  putSlot,
+  putRegister,
+  dropKey,
+  dropSlot,
+  stopped,
+  reset,
+  empty,
+}
+
+-- no two rows have one name
+abbrev pub Names : List Slot → Type 0
+Names l = (i j : ℕ) (s : List ℕ) (a b : State) → getD l i free ≡ used s a → getD l j free ≡ used s b → i ≡ j
+
+-- no two registers have one group and revision
+abbrev pub Keys : List Register → Type 0
+Keys l = (i j : ℕ) (g r : List ℕ) (s c s′ c′ : List ℕ) → getD l i vacant ≡ key g r s c → getD l j vacant ≡ key g r s′ c′ → i ≡ j
+
+-- slot s has a row
+pub record Known (l : List Slot) (s : List ℕ) : Type 0 where
+  pub row : ℕ
+  pub state : State
+  pub is : getD l row free ≡ used s state
+
+pub record Sound (t : Tables) : Type 0 where
+  pub names : Names (t .slots)
+  pub keys : Keys (t .registers)
+  pub known : (i : ℕ) (g r : List ℕ) (s c : List ℕ) → getD (t .registers) i vacant ≡ key g r s c → Known (t .slots) s
+
+-- a row within
+pub used-within : (l : List Slot) (i : ℕ) (s : List ℕ) (a : State) → getD l i free ≡ used s a → i < length l
+used-within l i s a e = within free l i (λ q. nope (cc))
+
+pub key-within : (l : List Register) (i : ℕ) (g r : List ℕ) (s c : List ℕ) → getD l i vacant ≡ key g r s c → i < length l
+key-within l i g r s c e = within vacant l i (λ q. nope (cc))
+
+-- the row of s is the one where its session goes
+pub spot-row : (t : Tables) → Names (t .slots) → (s : List ℕ) (i : ℕ) → Spot t s i → (k : ℕ) (b : State) → slotRow t k ≡ used s b → k ≡ i
+spot-row t n s i (own a e) k b q = n k i s b a q e
+spot-row t n s i (fresh e f) k b q = absurd (f k b q)
+
+pub home-row : (t : Tables) → Keys (t .registers) → (g r : List ℕ) (i : ℕ) → Home t g r i → (k : ℕ) (s c : List ℕ) → getD (t .registers) k vacant ≡ key g r s c → k ≡ i
+home-row t n g r i (held s′ c′ e) k s c q = n k i g r s c s′ c′ q e
+home-row t n g r i (spare e f) k s c q = absurd (f k s c q)
+
+-- a store of a slot row
+names-put : (t : Tables) → Names (t .slots) → (s : List ℕ) (i : ℕ) (v : State) → i < length (t .slots) → Spot t s i → Names (set (t .slots) i (used s v))
+names-put t n s i v h p j k u a b e f = go (stored free (t .slots) i (used s v) j h) (stored free (t .slots) i (used s v) k h)
+  where
+    go : Stored free (t .slots) i (used s v) j → Stored free (t .slots) i (used s v) k → j ≡ k
+    go (new x q) (new y w) = cc
+    go (new x q) (old y w) =
+        let z : s ≡ u = cc in
+        let m = spot-row t n s i p k b (cc) in cc
+    go (old x q) (new y w) =
+        let z : s ≡ u = cc in
+        let m = spot-row t n s i p j a (cc) in cc
+    go (old x q) (old y w) = n j k u a b (cc) (cc)
+
+names-free : (l : List Slot) → Names l → (i : ℕ) → i < length l → Names (set l i free)
+names-free l n i h j k u a b e f = go (stored free l i free j h) (stored free l i free k h)
+  where
+    go : Stored free l i free j → Stored free l i free k → j ≡ k
+    go (new x q) y = cc
+    go (old x q) (new y w) = cc
+    go (old x q) (old y w) = n j k u a b (cc) (cc)
+
+-- every name that had a row has it still
+known-put : (t : Tables) (s : List ℕ) (i : ℕ) (v : State) → i < length (t .slots) → Spot t s i → (u : List ℕ) → Known (t .slots) u → Known (set (t .slots) i (used s v)) u
+known-put t s i v h p u k = go (stored free (t .slots) i (used s v) (k .row) h) p
+  where
+    go : Stored free (t .slots) i (used s v) (k .row) → Spot t s i → Known (set (t .slots) i (used s v)) u
+    go (new x q) (own a e) = record { row = k .row; state = v; is = cc }
+    go (new x q) (fresh e f) = record { row = k .row; state = v; is = cc }
+    go (old x q) p = record { row = k .row; state = k .state; is = cc }
+
+-- the deletion of slot s leaves just the keys of other slots
+pub drop-key : (s : List ℕ) (v : Register) (g r : List ℕ) (u c : List ℕ) → dropKey s v ≡ key g r u c → (v ≡ key g r u c) × (sameBytes u s ≡ false)
+unfolding dropKey
+drop-key s vacant g r u c e = nope (cc)
+drop-key s (key g′ r′ u′ c′) g r u c e = go (sameBytes u′ s) refl e
+  where
+    go : (b : Bool) → sameBytes u′ s ≡ b → cond b vacant (key g′ r′ u′ c′) ≡ key g r u c → (key g′ r′ u′ c′ ≡ key g r u c) × (sameBytes u s ≡ false)
+    go true q e = nope (cc)
+    go false q e = let z : u′ ≡ u = cc in (e, cc)
+
+-- and those it leaves as they are
+pub drop-kept : (s : List ℕ) (g r : List ℕ) (u c : List ℕ) → (s ≢ u) → dropKey s (key g r u c) ≡ key g r u c
+unfolding dropKey
+drop-kept s g r u c n = go (sameBytes u s) refl
+  where
+    go : (b : Bool) → sameBytes u s ≡ b → cond b vacant (key g r u c) ≡ key g r u c
+    go true q = absurd (n (sym (same-equal u s q)))
+    go false q = refl
+
+pub drop-row : (s : List ℕ) (l : List Register) (i : ℕ) → getD (map (dropKey s) l) i vacant ≡ dropKey s (getD l i vacant)
+unfolding dropKey
+drop-row s l i = List·getD-map (dropKey s) l i vacant
+
+pub stop-row : (l : List Slot) (i : ℕ) → getD (map stopped l) i free ≡ stopped (getD l i free)
+unfolding stopped
+stop-row l i = List·getD-map stopped l i free
+
+pub stop-used : (v : Slot) (s : List ℕ) (b : State) → stopped v ≡ used s b → (b ≡ idle) × ((a : State) × (v ≡ used s a))
+unfolding stopped
+stop-used free s b e = nope (cc)
+stop-used (used u a) s b e = (cc, (a, cc))
+
+stop-known : (l : List Slot) (u : List ℕ) → Known l u → Known (map stopped l) u
+unfolding stopped
+stop-known l u k = record { row = k .row; state = idle; is = stop-row l (k .row) ∙ ap stopped (k .is) }
+
+keys-put : (t : Tables) → Keys (t .registers) → (g r : List ℕ) (i : ℕ) (s c : List ℕ) → i < length (t .registers) → Home t g r i → Keys (set (t .registers) i (key g r s c))
+keys-put t n g r i s c h p j k g′ r′ u d u′ d′ e f = go (stored vacant (t .registers) i (key g r s c) j h) (stored vacant (t .registers) i (key g r s c) k h)
+  where
+    go : Stored vacant (t .registers) i (key g r s c) j → Stored vacant (t .registers) i (key g r s c) k → j ≡ k
+    go (new x q) (new y w) = cc
+    go (new x q) (old y w) = let m = home-row t n g r i p k u′ d′ (cc) in cc
+    go (old x q) (new y w) = let m = home-row t n g r i p j u d (cc) in cc
+    go (old x q) (old y w) = n j k g′ r′ u d u′ d′ (cc) (cc)
+
+keys-vacant : (l : List Register) → Keys l → (i : ℕ) → i < length l → Keys (set l i vacant)
+keys-vacant l n i h j k g r u d u′ d′ e f = go (stored vacant l i vacant j h) (stored vacant l i vacant k h)
+  where
+    go : Stored vacant l i vacant j → Stored vacant l i vacant k → j ≡ k
+    go (new x q) y = cc
+    go (old x q) (new y w) = cc
+    go (old x q) (old y w) = n j k g r u d u′ d′ (cc) (cc)
+
+keys-drop : (s : List ℕ) (l : List Register) → Keys l → Keys (map (dropKey s) l)
+keys-drop s l n i j g r u c u′ c′ e f =
+    n i j g r u c u′ c′ (drop-key s _ g r u c (rw drop-row at e) .0) (drop-key s _ g r u′ c′ (rw drop-row at f) .0)
+
+sound-put : (t : Tables) → Sound t → (s : List ℕ) (i : ℕ) (v : State) → i < length (t .slots) → Spot t s i → Sound (putSlot t i (used s v))
+sound-put t σ s i v h p = record {
+  names = names-put t (σ .names) s i v h p;
+  keys = σ .keys;
+  known = λ j g r u c e. known-put t s i v h p u (σ .known j g r u c e);
+}
+
+pub sound-step : (t : Tables) (ι : Item) (t′ : Tables) → Step t ι t′ → Sound t → Sound t′
+unfolding dropSlot reset
+sound-step t ι t′ (refuses e′) σ = σ
+sound-step t ι t′ reads σ = σ
+sound-step t ι t′ (starts s i h p) σ = sound-put t σ s i pending h p
+sound-step t ι t′ (responds s i q) σ = sound-put t σ s i loading (used-within (t .slots) i s _ q) (own _ q)
+sound-step t ι t′ (loads s g r c k i f h p) σ = record {
+  names = σ .names;
+  keys = keys-put t (σ .keys) g r i s c h p;
+  known = λ j g′ r′ u d w. go j g′ r′ u d w (stored vacant (t .registers) i (key g r s c) j h);
+}
+  where
+    go : (j : ℕ) (g′ r′ : List ℕ) (u d : List ℕ) → getD (set (t .registers) i (key g r s c)) j vacant ≡ key g′ r′ u d → Stored vacant (t .registers) i (key g r s c) j → Known (t .slots) u
+    go j g′ r′ u d w (new x y) = record { row = k; state = loading; is = cc }
+    go j g′ r′ u d w (old x y) = σ .known j g′ r′ u d (cc)
+sound-step t ι t′ (finishes s i a q) σ = sound-put t σ s i idle (used-within (t .slots) i s _ q) (own _ q)
+sound-step t ι t′ (deletes s i a q) σ = record {
+  names = names-free (t .slots) (σ .names) i (used-within (t .slots) i s a q);
+  keys = keys-drop s (t .registers) (σ .keys);
+  known = λ j g r u c w. let m = drop-key s _ g r u c (rw drop-row at w) in go u (m .1) (σ .known j g r u c (m .0));
+}
+  where
+    go : (u : List ℕ) → sameBytes u s ≡ false → Known (t .slots) u → Known (set (t .slots) i free) u
+    go u n k = at-row (stored free (t .slots) i free (k .row) (used-within (t .slots) i s a q))
+      where
+        at-row : Stored free (t .slots) i free (k .row) → Known (set (t .slots) i free) u
+        at-row (new x y) = let z : s ≡ u = cc in absurd (clash (same-self s) (rw (← z) at n))
+        at-row (old x y) = record { row = k .row; state = k .state; is = cc }
+sound-step t ι t′ (clears i g r s c q) σ = record {
+  names = σ .names;
+  keys = keys-vacant (t .registers) (σ .keys) i (key-within (t .registers) i g r s c q);
+  known = λ j g′ r′ u d w. go j g′ r′ u d w (stored vacant (t .registers) i vacant j (key-within (t .registers) i g r s c q));
+}
+  where
+    go : (j : ℕ) (g′ r′ : List ℕ) (u d : List ℕ) → getD (set (t .registers) i vacant) j vacant ≡ key g′ r′ u d → Stored vacant (t .registers) i vacant j → Known (t .slots) u
+    go j g′ r′ u d w (new x y) = nope (cc)
+    go j g′ r′ u d w (old x y) = σ .known j g′ r′ u d (cc)
+sound-step t ι t′ resets σ = record {
+  names = λ i j s a b p q. let m = stop-used _ s a (rw stop-row at p) .1 in let n = stop-used _ s b (rw stop-row at q) .1 in σ .names i j s (m .0) (n .0) (m .1) (n .1);
+  keys = σ .keys;
+  known = λ i g r s c w. stop-known (t .slots) s (σ .known i g r s c w);
+}
+
+pub sound-empty : (a b : ℕ) → Sound (empty a b)
+unfolding empty
+sound-empty a b = record {
+  names = λ i j s x y p q. let k = getD-none free a i in cc;
+  keys = λ i j g r s c s′ c′ p q. let k = getD-none vacant b i in cc;
+  known = λ i g r s c p. let k = getD-none vacant b i in nope (cc);
+}

@@ -1,0 +1,4 @@
+pub mod History
+pub mod Model
+pub mod Step
+pub mod Demand3

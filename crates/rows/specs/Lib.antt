@@ -1,0 +1,5 @@
+pub mod Lists
+pub mod Slots
+pub mod Registers
+pub mod Sound
+pub mod Supplements

@@ -1,0 +1,35 @@
+-- Lists of rows, of any length and any kind of row.
+use Prim.Native.Nat.{ℕ, _+_}
+use mathlib.Core.Bool.{Bool, true, false, cond, not, _&&_, _||_}
+use mathlib.Core.List.{List, [], _∷_, _++_}
+use mathlib.Core.Option.{Option, none, some}
+use lib.ListN.{take, replicate}
+use Rattle.octets.specs.Strings.{isNot, run}
+
+-- every row passes a test
+abbrev pub everyRow : {A : Type 0} → (A → Bool) → List A → Bool
+everyRow f [] = true
+everyRow f (x ∷ xs) = f x && everyRow f xs
+
+-- some row passes a test
+abbrev pub someRow : {A : Type 0} → (A → Bool) → List A → Bool
+someRow f [] = false
+someRow f (x ∷ xs) = f x || someRow f xs
+
+-- no row is alike to a later one
+abbrev pub distinctRows : {A : Type 0} → (A → A → Bool) → List A → Bool
+distinctRows alike [] = true
+distinctRows alike (x ∷ xs) = not (someRow (alike x) xs) && distinctRows alike xs
+
+-- the place of the first row that passes a test, counted from i
+abbrev pub firstFrom : {A : Type 0} → (A → Bool) → ℕ → List A → Option ℕ
+firstFrom f i [] = none
+firstFrom f i (x ∷ xs) = cond (f x) (some i) (firstFrom f (i + 1) xs)
+
+-- bytes in n bytes of space, zero after their end; what does not fit is left out
+unfoldable pub padded : ℕ → List ℕ → List ℕ
+padded n s = take n (s ++ replicate n 0)
+
+-- what stands before the first zero
+unfoldable pub trimmed : List ℕ → List ℕ
+trimmed s = take (run (isNot 0) s) s

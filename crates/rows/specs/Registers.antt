@@ -1,0 +1,48 @@
+-- Register rows (document 01, Slots and registers): a stored card, or free.
+use Prim.Native.Nat.{ℕ}
+use mathlib.Core.Bool.{Bool, cond, not, _&&_, _||_}
+use mathlib.Core.List.{List, []}
+use lib.ListN.{replicate}
+use Rattle.octets.specs.Strings.{sameBytes}
+use Rattle.text.specs.Classes.{areAll}
+use Rattle.text.specs.declared.Class.the-variants.{Zero}
+use Rattle.attributes.specs.Table.{SGC, KRN, KSL}
+use Rattle.cards.specs.Entries.{valueOf, orElse}
+use Rattle.stored_cards.specs.Stored.{isStored, inRow}
+use Rattle.rows.specs.declared.RegisterRow.{RegisterRow}
+
+-- every byte of the row is zero
+unfoldable pub isVacant : RegisterRow → Bool
+isVacant r = areAll Zero (r .card)
+
+-- what a row's card has under a name
+unfoldable pub attributeOf : ℕ → RegisterRow → List ℕ
+attributeOf n r = orElse (valueOf n (r .card)) []
+
+-- the row holds a key of the supply group g and the revision k
+unfoldable pub isKeyOf : List ℕ → List ℕ → RegisterRow → Bool
+isKeyOf g k r = not (isVacant r) && (sameBytes (attributeOf SGC r) g && sameBytes (attributeOf KRN r) k)
+
+-- the row holds a key of the slot s
+unfoldable pub isUnder : List ℕ → RegisterRow → Bool
+isUnder s r = not (isVacant r) && sameBytes (attributeOf KSL r) s
+
+-- a register row that is sound by itself: free and zero, or a card as stored
+unfoldable pub isRegisterSound : RegisterRow → Bool
+isRegisterSound r = isVacant r || isStored (r .card)
+
+-- two rows that hold one key
+unfoldable pub isSameKey : RegisterRow → RegisterRow → Bool
+isSameKey a b = not (isVacant a) && isKeyOf (attributeOf SGC a) (attributeOf KRN a) b
+
+-- a freed row
+unfoldable pub freeRegister : RegisterRow
+freeRegister = record { card = replicate 256 0 }
+
+-- a row filled with a stored card
+unfoldable pub filledRegister : List ℕ → RegisterRow
+filledRegister card = record { card = inRow card }
+
+-- SM?KX: the row becomes free where it holds a key of the slot
+unfoldable pub withoutSlot : List ℕ → RegisterRow → RegisterRow
+withoutSlot s r = cond (isUnder s r) freeRegister r

@@ -1,0 +1,73 @@
+-- Bytes in a space of zeros, and what stands before the first zero.
+use mathlib.Core.Path.{_≡_, refl, sym, ap, _∙_}
+use mathlib.Core.Bool.{Bool, true, false, not, _&&_}
+use mathlib.Core.List.{List, [], _∷_, _++_}
+use Prim.Native.Nat.{ℕ, zero, suc, _+_, _-_, _≤_, _<_}
+use native.Mathlib.Nat.{sub-zero}
+use native.Mathlib.Omega.{arith}
+use lib.ListN.{length, take, drop, replicate, length-replicate}
+use lib.Seq.{length-take-le, take-all}
+use Rattle.octets.specs.Strings.{isNot, run}
+use Rattle.octets.specs.Wrote.{Wrote}
+use Rattle.octets.proofs.StringLaws.{rest}
+use Rattle.octets.proofs.Writes.{from-start}
+use Rattle.text.specs.Classes.{areAll}
+use Rattle.text.specs.Identifiers.{isIdentifier}
+use Rattle.text.specs.declared.Class.the-variants.{Zero}
+use Rattle.identities.proofs.Chain.{no-here, yes-here}
+use Rattle.rows.specs.Lists.{padded, trimmed}
+
+-- trimmed, is_kmcid: e is where the first zero stands
+module _ (s : List ℕ) (e : ℕ) (p : e ≡ 0 + run (isNot 0) s) where
+  first-zero : e ≡ run (isNot 0) s
+  first-zero = omega arith
+
+  pub before-zero : take (e - 0) s ≡ trimmed s
+  unfolding trimmed
+  before-zero = ap (λ (k : ℕ). take k s) (sub-zero e ∙ first-zero)
+
+  module _ (t : Bool) (q : t ≡ isIdentifier (take (e - 0) s)) where
+    pub no-identifier : not t ≡ true → false ≡ (isIdentifier (trimmed s) && areAll Zero (drop (run (isNot 0) s) s))
+    no-identifier o = no-here (isIdentifier (trimmed s)) _ t (q ∙ ap isIdentifier before-zero) o
+
+    pub from-zero : not t ≡ false → (b : Bool) → b ≡ areAll Zero (take (length s - e) (drop e s)) → b ≡ (isIdentifier (trimmed s) && areAll Zero (drop (run (isNot 0) s) s))
+    from-zero o b h =
+        yes-here (isIdentifier (trimmed s)) _ t b (q ∙ ap isIdentifier before-zero) o
+        (h ∙ ap (areAll Zero) (rest s e) ∙ ap (λ (k : ℕ). areAll Zero (drop k s)) first-zero)
+
+-- a space of n zeros, filled from its start on
+zeros-front : (n m : ℕ) → n ≤ m → replicate {A = ℕ} n 0 ≡ take n (replicate m 0)
+zeros-front zero m h = refl
+zeros-front (suc n) zero h = absurd (omega arith)
+zeros-front (suc n) (suc m) h = ap (λ (l : List ℕ). 0 ∷ l) (zeros-front n m (omega arith))
+
+front-filled : (n m : ℕ) (s : List ℕ) → n ≤ m → take n s ++ drop (length (take n s)) (replicate n 0) ≡ take n (s ++ replicate m 0)
+front-filled zero m s h = refl
+front-filled (suc n) m [] h = zeros-front (suc n) m h
+front-filled (suc n) m (b ∷ bs) h = ap (λ (l : List ℕ). b ∷ l) (front-filled n m bs (omega arith))
+
+in-zeros : (n : ℕ) (s v e : List ℕ) (b : ℕ) → v ≡ take n s → length v ≤ n → Wrote (replicate n 0) 0 v e b → e ≡ padded n s
+unfolding padded
+in-zeros n s v e b p h w =
+    from-start w (rw length-replicate h)
+    ∙ ap (λ (l : List ℕ). l ++ drop (length l) (replicate n 0)) p
+    ∙ front-filled n n s (omega arith)
+
+-- in_forty, in_sixteen: v is the front of s
+module _ (s v e : List ℕ) (b : ℕ) where
+  pub forty : v ≡ take 40 s → length v ≤ 40 → Wrote (replicate 40 0) 0 v e b → e ≡ padded 40 s
+  forty = in-zeros 40 s v e b
+
+  pub sixteen : v ≡ take 16 s → length v ≤ 16 → Wrote (replicate 16 0) 0 v e b → e ≡ padded 16 s
+  sixteen = in-zeros 16 s v e b
+
+-- front
+module _ (s : List ℕ) (n : ℕ) where
+  pub whole : length s ≤ n → s ≡ take n s
+  whole h = sym (take-all n s h)
+
+  pub part : take (n - 0) s ≡ take n s
+  part = ap (λ (k : ℕ). take k s) (sub-zero n)
+
+  pub part-short : n < length s → length (take (n - 0) s) ≤ n
+  part-short h = omega (arith, ap length part, length-take-le n s (omega arith))

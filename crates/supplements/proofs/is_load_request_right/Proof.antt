@@ -1,0 +1,16 @@
+-- `supplements::is_load_request_right` meets its contract, a law a return; the request is at most the 700 bytes that there are.
+use Rattle.supplements.proofs.SupplementLaws.{requestCases, room, front}
+use borrow.Author.Needs.{needs}
+use Rattle.supplements.proofs.is_load_request_right.Statement.{statement}
+use Rattle.supplements.proofs.is_load_request_right.Tie as tie
+
+pub is-load-request-right-spec : {M : Type 1} → statement M
+is-load-request-right-spec =
+    tie.close
+    (tie.spec
+    (λ c. search requestCases)
+    (λ c. search requestCases)
+    (λ c. search (room, needs))
+    (λ c. search (front, needs))
+    (λ c κs. search needs)
+    (λ c. search requestCases))
