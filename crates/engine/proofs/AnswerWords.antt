@@ -89,7 +89,7 @@ module _ (x : Call) (r : Refusal) where
   abbrev said : Bool
   said = isAccepted (refusalBytes (x .request) (refusal r .header) (refusal r))
 
-  abbrev later : List Question
+  abbrev pub later : List Question
   later =
       let c = commandIn (x .request) in
       let vs = fieldsIn (x .request) in

@@ -6,3 +6,4 @@ pub mod Steps
 pub mod Demand3
 pub mod AnswerLaws
 pub mod Readings
+pub mod ReadsBack

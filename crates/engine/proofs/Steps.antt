@@ -71,7 +71,7 @@ pub record Yes (x : Call) (c : Command) (vs : List Value) : Type 0 where
   pub home : asked (KL ∷ []) c (isPlace (storePlace (groupIn (cardIn (recordIn c vs))) (revisionIn (cardIn (recordIn c vs))) (x .registers))) ≡ true
   pub filled : asked (GA ∷ KD ∷ []) c (isFilled (registerIn vs) (x .registers)) ≡ true
 
-yes-of : (x : Call) → firstNo (questions x) ≡ none → Yes x (commandIn (x .request)) (fieldsIn (x .request))
+pub yes-of : (x : Call) → firstNo (questions x) ≡ none → Yes x (commandIn (x .request)) (fieldsIn (x .request))
 unfolding questions
 yes-of x e =
     let y : AllYes (questions x) = all-yes (questions x) e in
@@ -120,7 +120,7 @@ module _ (x : Call) (c : Command) (vs : List Value) (y : Yes x c vs) (k : KnownA
   unfolding slotNamed
   row-is = rw (k .is) refl
 
-  row-identifier : isIdentifier s ≡ true
+  pub row-identifier : isIdentifier s ≡ true
   row-identifier = rw (named-name v s (k .named)) at (sound-name v row-sound (named-state v s (k .named)))
 
   -- moved to another state
@@ -135,11 +135,11 @@ module _ (x : Call) (c : Command) (vs : List Value) (y : Yes x c vs) (k : KnownA
   slots-without = rw (k .is, map-set slotIs (x .slots) (k .place) freeSlot, free-reads) refl
 
 -- the KMCID of a public key in form
-identity-name : (q : List ℕ) → identityInForm q ≡ true → isIdentifier (nameIn q) ≡ true
+pub identity-name : (q : List ℕ) → identityInForm q ≡ true → isIdentifier (nameIn q) ≡ true
 unfolding identityInForm
 identity-name q e = and-first (isIdentifier (nameIn q)) _ (and-second (isIdentifier (field colon 1 q)) _ e)
 
-key-identity : (r : List ℕ) → publicKeyInForm r ≡ true → identityInForm (kmcIdentityIn r) ≡ true
+pub key-identity : (r : List ℕ) → publicKeyInForm r ≡ true → identityInForm (kmcIdentityIn r) ≡ true
 unfolding publicKeyInForm
 key-identity r e = and-first (identityInForm (kmcIdentityIn r)) _ e
 
@@ -188,19 +188,19 @@ does-rs x vs y = rw (says-yes x RS vs y, rs-slots x vs y) resets
 
 -- a reply's register and card
 module _ (x : Call) (vs : List Value) (y : Yes x KL vs) (n : x .registerCount ≡ length (x .registers)) where
-  abbrev name : List ℕ
+  abbrev pub name : List ℕ
   name = slotIn KL vs
 
-  abbrev card : List ℕ
+  abbrev pub card : List ℕ
   card = cardIn (recordIn KL vs)
 
-  abbrev stored : List ℕ
+  abbrev pub stored : List ℕ
   stored = loadedCard card (x .supplement .check) name
 
   slot-at : KnownAt (x .slots) name
   slot-at = known-at (x .slots) name (y .known)
 
-  register-at : HomeAt (x .slots) (x .registers) (groupIn card) (revisionIn card)
+  pub register-at : HomeAt (x .slots) (x .registers) (groupIn card) (revisionIn card)
   register-at = home-at (x .slots) (x .registers) (groupIn card) (revisionIn card) (y .home)
 
   is-name : isIdentifier name ≡ true
@@ -216,7 +216,7 @@ module _ (x : Call) (vs : List Value) (y : Yes x KL vs) (n : x .registerCount �
       let z = x .supplement in
       and-first (inForm (Hex 6) (z .check)) _ (and-second (inForm (Hex 48) (z .tag)) _ (and-second (isLoadRequestRight z) _ (and-second (isIdentityRight z) _ (and-second (isTimestamp (z .clock)) _ (y .supplement)))))
 
-  is-text : areAll Text stored ≡ true
+  pub is-text : areAll Text stored ≡ true
   unfolding loadedCard areAll isNumber isUnpadded
   is-text = stored-text card is-card (48 ∷ []) (x .supplement .check) name (48 ∷ []) refl is-check is-name refl
 
@@ -224,13 +224,13 @@ module _ (x : Call) (vs : List Value) (y : Yes x KL vs) (n : x .registerCount �
   unfolding loadedCard
   is-reading = loaded-reads card (x .supplement .check) name is-card is-check is-name
 
-  is-low : register-at .place + 1 ≤ 2147483647
+  pub is-low : register-at .place + 1 ≤ 2147483647
   unfolding areCounts
   is-low =
       let m = leb-true (x .registerCount) 32 (and-second (leb 1 (x .registerCount)) _ (and-second (leb (x .slotCount) 8) _ (and-second (leb 1 (x .slotCount)) _ (y .counts)))) in
       omega (arith, n, register-at .within)
 
-  abbrev reply : List Value
+  abbrev pub reply : List Value
   reply = number (register-at .place + 1) ∷ string stored ∷ []
 
   reply-reads : fieldsOf (responseBytes (headerOf (x .request)) accepted reply) ≡ reply
@@ -243,7 +243,7 @@ module _ (x : Call) (vs : List Value) (y : Yes x KL vs) (n : x .registerCount �
       ∙ map-set registerIs (x .registers) (register-at .place) (filledRegister stored)
       ∙ ap (set (map registerIs (x .registers)) (register-at .place)) is-reading
 
-  kl-response : effect x KL vs (recordIn KL vs) name .response ≡ responseBytes (headerOf (x .request)) accepted reply
+  pub kl-response : effect x KL vs (recordIn KL vs) name .response ≡ responseBytes (headerOf (x .request)) accepted reply
   unfolding answered cardPlace
   kl-response =
       ap (λ (o : Option ℕ). responseBytes (headerOf (x .request)) accepted (number (placeIn (x .registers) o + 1) ∷ string stored ∷ [])) (register-at .is)

@@ -1,0 +1,58 @@
+-- The run is what the engine's definition computes, call by call, and so the list of demand 3.
+use mathlib.Core.Path.{_≡_, refl, ap, _∙_}
+use mathlib.Core.List.{List, [], _∷_, map}
+use Prim.Native.Nat.{ℕ}
+use Rattle.crc.specs.Crc.{crcBit, crcEight, crcByte}
+use Rattle.hexadecimal.specs.Hex.{hexDigit, hexValue, fromDigits, readHex4}
+use Rattle.checksum.specs.Checksum.{sumDigits, endsInSum}
+use Rattle.text.specs.Classes.{isAlphanumeric, isMark, areAll}
+use Rattle.text.specs.Identifiers.{isIdentifier}
+use Rattle.decimals.specs.Decimals.{isUnpadded, isNumber}
+use Rattle.calendar.specs.Calendar.{isLeap, daysIn, isDate, isTime}
+use Rattle.timestamp.specs.Timestamps.{momentOf, timestampOf, dateTimeOf, isTimestamp, isDateTime}
+use Rattle.fields.specs.Bounds.{numberOf}
+use Rattle.fields.specs.Values.{isOctets, typed, valuesOf, valueAt, nextAt, contentBytes}
+use Rattle.frames.specs.Frames.{endsInReturn, isWhole, isChecked, textOf, headerOf, payloadOf, ending, framed, requestBytes, answered, headBytes}
+use Rattle.commands.specs.Commands.{headers, commandOf}
+use Rattle.responses.specs.Responses.{responseBytes, statusOf, fieldsOf}
+use Rattle.records.specs.Records.{bodyOf, field, isRecord}
+use Rattle.forms.specs.Forms.{isAlgorithm}
+use Rattle.attributes.specs.Table.{table}
+use Rattle.cards.specs.Entries.{nameOf, valueOf, valueOr, entryBytes}
+use Rattle.incoming_cards.specs.Incoming.{fits, isCardFrom, isMet, isIncoming}
+use Rattle.stored_cards.specs.Stored.{defaultCard, storedValue, storedCard, inRow, isEntryOf, isStored}
+use Rattle.identities.specs.Identities.{identityInForm}
+use Rattle.key_records.specs.KeyRecords.{parsesPublicKey, publicKeyInForm, parsesResponse, responseInForm, keyInForm}
+use Rattle.rows.specs.Lists.{padded, trimmed}
+use Rattle.rows.specs.Registers.{isVacant, attributeOf, isKeyOf, isUnder, isRegisterSound, isSameKey, freeRegister, filledRegister, withoutSlot}
+use Rattle.rows.specs.Slots.{isZeroSlot, isNamed, isFilledSlot, isSlotSound, isSameSlot, freeSlot, filledSlot, resetSlot}
+use Rattle.rows.specs.Sound.{isOwned, areSound}
+use Rattle.rows.specs.Supplements.{isIdentityRight, isLoadRequestRight, isWellFormed}
+use Rattle.decimal_writer.specs.Digits.{decDigits, decimalBytes}
+use Rattle.engine.specs.Requests.{areFieldsOf, recordIn, slotIn}
+use Rattle.engine.specs.Questions.{sessionPlace, storePlace, slotNamed, areCounts, isFilled, questions}
+use Rattle.engine.specs.Answers.{slotsOpened, slotsWithout, loadedCard, cardPlace, answerOf}
+use Rattle.engine.specs.Words.{slotIs, registerIs, isAccepted, emptyRows}
+use Rattle.engine.specs.Answers as answers
+use Rattle.engine.specs.Words.{Handed, Lent, rowsAfter, itemAt}
+use Rattle.history.specs.History.{finally, trace}
+use Rattle.history.specs.Model.{Item}
+use Rattle.sample_run.specs.Run.{Stage, stages}
+
+-- each stage follows from the rows before it
+abbrev pub Follows : Lent → List Stage → Type 0
+Follows t [] = Unit {0}
+Follows t (g ∷ gs) = (itemAt t (g .call) ≡ g .item) × (rowsAfter t (g .call) ≡ g .after) × Follows (g .after) gs
+
+pub follows : Follows (emptyRows 2 2) stages
+unfolding crcBit crcEight crcByte hexDigit hexValue fromDigits readHex4 sumDigits endsInSum isAlphanumeric isMark areAll isIdentifier isUnpadded isNumber isLeap daysIn isDate isTime momentOf timestampOf dateTimeOf isTimestamp isDateTime numberOf isOctets typed valuesOf valueAt nextAt contentBytes endsInReturn isWhole isChecked textOf headerOf payloadOf ending framed requestBytes answered headBytes headers commandOf responseBytes statusOf fieldsOf bodyOf field isRecord isAlgorithm table nameOf valueOf valueOr entryBytes fits isCardFrom isMet isIncoming defaultCard storedValue storedCard inRow isEntryOf isStored identityInForm parsesPublicKey publicKeyInForm parsesResponse responseInForm keyInForm padded trimmed isVacant attributeOf isKeyOf isUnder isRegisterSound isSameKey freeRegister filledRegister withoutSlot isZeroSlot isNamed isFilledSlot isSlotSound isSameSlot freeSlot filledSlot resetSlot isOwned areSound isIdentityRight isLoadRequestRight isWellFormed decDigits decimalBytes areFieldsOf recordIn slotIn sessionPlace storePlace slotNamed areCounts isFilled questions slotsOpened slotsWithout loadedCard cardPlace answers.refused answers.answered answerOf slotIs registerIs isAccepted emptyRows
+follows = (refl, refl, (refl, refl, (refl, refl, (refl, refl, (refl, refl, (refl, refl, (refl, refl, (refl, refl, (refl, refl, (refl, refl, (refl, refl, (refl, refl, tt))))))))))))
+
+-- so the list of the calls is the list of the items
+pub read : (t : Lent) (gs : List Stage) → Follows t gs → trace rowsAfter itemAt t (map (λ (g : Stage). g .call) gs) ≡ map (λ (g : Stage). g .item) gs
+unfolding trace
+read t [] f = refl
+read t (g ∷ gs) f = rw (f .0, f .1) (ap (λ (l : List Item). g .item ∷ l) (read (g .after) gs (f .2)))
+
+pub run-read : trace rowsAfter itemAt (emptyRows 2 2) (map (λ (g : Stage). g .call) stages) ≡ map (λ (g : Stage). g .item) stages
+run-read = read (emptyRows 2 2) stages follows
