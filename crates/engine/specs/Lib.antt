@@ -2,4 +2,5 @@ pub mod Refusals
 pub mod Requests
 pub mod Questions
 pub mod Answers
+pub mod Decisions
 pub mod Words

@@ -33,3 +33,15 @@ pub enum Outcome {
     Done,
     Refused(Refusal),
 }
+
+// What is to be done: a request is refused, or its command is carried out at the place of a row, counted from 0.
+pub enum Decision {
+    Refuse(Refusal),
+    Reset,
+    Pend(usize),
+    Open(usize),
+    Load(usize),
+    Finish(usize),
+    Delete(usize),
+    Clear(usize),
+}

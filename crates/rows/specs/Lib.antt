@@ -3,3 +3,5 @@ pub mod Slots
 pub mod Registers
 pub mod Sound
 pub mod Supplements
+pub mod Places
+pub mod Index

@@ -1,9 +1,9 @@
 -- Lists of rows, of any length and any kind of row.
 use Prim.Native.Nat.{ℕ, _+_}
 use mathlib.Core.Bool.{Bool, true, false, cond, not, _&&_, _||_}
-use mathlib.Core.List.{List, [], _∷_, _++_}
+use mathlib.Core.List.{List, [], _∷_, _++_, map}
 use mathlib.Core.Option.{Option, none, some}
-use lib.ListN.{take, replicate}
+use lib.ListN.{take, drop, replicate}
 use Rattle.octets.specs.Strings.{isNot, run}
 
 -- every row passes a test
@@ -33,3 +33,7 @@ padded n s = take n (s ++ replicate n 0)
 -- what stands before the first zero
 unfoldable pub trimmed : List ℕ → List ℕ
 trimmed s = take (run (isNot 0) s) s
+
+-- the first n rows changed, each by f; the places beyond them as they were
+abbrev pub mapped : {A : Type 0} → ℕ → (A → A) → List A → List A
+mapped n f l = map f (take n l) ++ drop n l

@@ -1,0 +1,21 @@
+-- Places among rows, and the rows that a caller has of the places that there are.
+use Prim.Native.Nat.{ℕ}
+use mathlib.Core.List.{List}
+use mathlib.Core.Option.{Option, none, some}
+use lib.ListN.{take}
+use Rattle.rows.specs.declared.SlotRow.{SlotRow}
+use Rattle.rows.specs.declared.RegisterRow.{RegisterRow}
+use Rattle.rows.specs.declared.Tables.{Tables}
+use Rattle.rows.specs.declared.Place.{Place}
+use Rattle.rows.specs.declared.Place.the-variants.{At, Nothing}
+
+-- the place that a search answered
+abbrev pub placeOf : Place → Option ℕ
+placeOf (At i) = some i
+placeOf Nothing = none
+
+abbrev pub slotRows : Tables → List SlotRow
+slotRows t = take (t .«slot_count») (t .slots)
+
+abbrev pub registerRows : Tables → List RegisterRow
+registerRows t = take (t .«register_count») (t .registers)
