@@ -13,7 +13,7 @@ use Rattle.pieces.specs.Pieces.{pieces}
 use Rattle.pieces.proofs.PieceLaws.{no-piece, next-piece}
 use Rattle.text.specs.Classes.{isOf}
 use Rattle.text.specs.declared.Class.the-variants.{Capital}
-use Rattle.cards.specs.Entries.{nameOf, valueIn, valueOf, between, Within, valueOr}
+use Rattle.cards.specs.Entries.{nameOf, valueIn, valueOf, between, Within, orElse, valueOr}
 use Rattle.cards.specs.declared.Found.{Found}
 use Rattle.cards.specs.declared.Found.the-variants.{At, Nothing}
 use Rattle.octets.proofs.StringLaws.{drop-take}
@@ -108,6 +108,14 @@ module _ (n : ℕ) (f : Found) (w : Within n f) (a e : ℕ) (p : f ≡ At a e) w
 
   pub end-le : e ≤ n
   end-le = within-both .1
+
+-- value
+module _ (s : List ℕ) (name : ℕ) (f : Found) (p : between s f ≡ valueOf name s) where
+  pub no-value : f ≡ Nothing → [] ≡ orElse (valueOf name s) []
+  no-value q = rw (← p, q)
+
+  pub a-value : (start end : ℕ) → f ≡ At start end → take (end - start) (drop start s) ≡ orElse (valueOf name s) []
+  a-value start end q = rw (← p, q)
 
 -- value_or
 module _ (s t : List ℕ) (name : ℕ) (f : Found) (p : between s f ≡ valueOf name s) where

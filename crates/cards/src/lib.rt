@@ -1,9 +1,10 @@
 // Attribute cards: entries of a name, a value and a semicolon, searched by name (document 01, Cards; 001 Annex F; 003 Appendix B).
 use text::Class;
 ghost use mathlib.Core.Path.{_≡_};
+ghost use mathlib.Core.List.{[]};
 ghost use Prim.Native.Nat.{_≤_, _<_};
 ghost use lib.ListN.{length};
-ghost use Rattle.cards.specs.Entries.{nameOf, valueOf, between, Within, valueOr};
+ghost use Rattle.cards.specs.Entries.{nameOf, valueOf, between, Within, valueOr, orElse};
 
 // Where a value stands in a card.
 pub enum Found {
@@ -58,6 +59,17 @@ pub fn find(card: &[u8], name: u32) -> Found
         at = e + 1;
     }
     Found::Nothing
+}
+
+// The value under a name; no byte, where the card has none.
+pub fn value<'a>(card: &'a [u8], name: u32) -> &'a [u8]
+    ensures { λ v. ⌜ now v ≡ orElse (valueOf name (now (card .entry))) [] ⌝ }
+{
+    let f = find(card, name);
+    let Found::At { start, end } = f else {
+        return &card[0..0];
+    };
+    &card[start..end]
 }
 
 // The value under a name in one card, and where it is absent in the other.

@@ -7,3 +7,4 @@ pub mod Demand3
 pub mod AnswerLaws
 pub mod Readings
 pub mod ReadsBack
+pub mod DecisionLaws

@@ -2,25 +2,18 @@
 use mathlib.Core.Path.{_≡_}
 use mathlib.Core.Bool.{Bool, true, false, not}
 use mathlib.Core.List.{List, []}
-use Prim.Native.Nat.{ℕ, _-_}
-use lib.ListN.{take, drop}
+use Prim.Native.Nat.{ℕ}
 use borrow.Author.Tests.{not-true, not-false}
 use Rattle.octets.specs.Strings.{sameBytes}
 use Rattle.attributes.specs.Table.{SGC, KRN, KSL}
-use Rattle.cards.specs.Entries.{valueOf, orElse, between}
-use Rattle.cards.specs.declared.Found.{Found}
-use Rattle.cards.specs.declared.Found.the-variants.{At, Nothing}
+use Rattle.cards.specs.Entries.{valueOf, orElse}
 use Rattle.stored_cards.specs.Stored.{isStored}
 use Rattle.rows.specs.Registers.{isVacant, attributeOf, isKeyOf, isUnder, isRegisterSound, freeRegister, withoutSlot}
 use Rattle.rows.specs.declared.RegisterRow.{RegisterRow}
 
--- has_value
-module _ (s v : List ℕ) (name : ℕ) (f : Found) (p : between s f ≡ valueOf name s) (a : Bool) where
-  pub value-absent : f ≡ Nothing → a ≡ sameBytes [] v → a ≡ sameBytes (orElse (valueOf name s) []) v
-  value-absent q e = rw (← p, q) e
-
-  pub value-found : (start end : ℕ) → f ≡ At start end → a ≡ sameBytes (take (end - start) (drop start s)) v → a ≡ sameBytes (orElse (valueOf name s) []) v
-  value-found start end q e = rw (← p, q) e
+-- has_value: u is what stands under the name
+pub value-same : (s v : List ℕ) (name : ℕ) (u : List ℕ) → u ≡ orElse (valueOf name s) [] → (a : Bool) → a ≡ sameBytes u v → a ≡ sameBytes (orElse (valueOf name s) []) v
+value-same s v name u p a e = rw (← p) e
 
 -- t says whether the row is free
 module _ (r : RegisterRow) (t : Bool) (e : t ≡ isVacant r) where

@@ -2,7 +2,6 @@
 use attributes::KRN;
 use attributes::KSL;
 use attributes::SGC;
-use cards::Found;
 use rows::RegisterRow;
 use text::Class;
 ghost use mathlib.Core.Path.{_≡_};
@@ -22,11 +21,7 @@ pub fn is_vacant(r: RegisterRow) -> bool
 fn has_value(card: &[u8], name: u32, v: &[u8]) -> bool
     ensures { λ a. ⌜ a ≡ sameBytes (orElse (valueOf name (now (card .entry))) []) (now (v .entry)) ⌝ }
 {
-    let f = cards::find(card, name);
-    let Found::At { start, end } = f else {
-        return octets::same_bytes(b"", v);
-    };
-    octets::same_bytes(&card[start..end], v)
+    octets::same_bytes(cards::value(card, name), v)
 }
 
 // Whether the row holds a key of the supply group g and the revision k.

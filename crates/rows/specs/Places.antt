@@ -1,5 +1,5 @@
 -- Places among rows, and the rows that a caller has of the places that there are.
-use Prim.Native.Nat.{ℕ}
+use Prim.Native.Nat.{ℕ, _<_}
 use mathlib.Core.List.{List}
 use mathlib.Core.Option.{Option, none, some}
 use lib.ListN.{take}
@@ -13,6 +13,11 @@ use Rattle.rows.specs.declared.Place.the-variants.{At, Nothing}
 abbrev pub placeOf : Place → Option ℕ
 placeOf (At i) = some i
 placeOf Nothing = none
+
+-- the place lies among n rows
+abbrev pub PlaceWithin : ℕ → Place → Type 0
+PlaceWithin n (At i) = i < n
+PlaceWithin n Nothing = Unit {0}
 
 abbrev pub slotRows : Tables → List SlotRow
 slotRows t = take (t .«slot_count») (t .slots)

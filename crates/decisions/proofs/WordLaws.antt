@@ -1,0 +1,80 @@
+-- What the small tests say in the definitions' words, where the code took a part of the record first.
+use mathlib.Core.Path.{_≡_, refl, sym, ap, _∙_}
+use mathlib.Core.Bool.{Bool, true, false, _||_}
+use mathlib.Core.List.{List, []}
+use mathlib.Core.Option.{Option, none, some}
+use Prim.Native.Nat.{ℕ, _≤_, _<_}
+use native.Mathlib.Omega.{arith}
+use lib.ListN.{length, take}
+use lib.Seq.{take-all, length-take-le}
+use Rattle.octets.specs.Strings.{sameBytes}
+use Rattle.records.specs.Records.{field}
+use Rattle.timestamp.specs.Timestamps.{timestampOf, isLater}
+use Rattle.timestamp.specs.declared.Moment.{Moment}
+use Rattle.rows.specs.Lists.{firstFrom}
+use Rattle.rows.specs.Slots.{hasState, isNamed}
+use Rattle.rows.specs.Registers.{isVacant, isKeyOf}
+use Rattle.rows.specs.Places.{placeOf}
+use Rattle.rows.specs.declared.Place.{Place}
+use Rattle.rows.specs.declared.Place.the-variants.{At, Nothing}
+use Rattle.rows.specs.declared.SlotRow.{SlotRow}
+use Rattle.rows.specs.declared.RegisterRow.{RegisterRow}
+use Rattle.rows.specs.declared.SlotState.the-variants.{Free, Pending, Loading}
+use Rattle.engine.specs.Questions.{slotPlace, freePlace, keyPlace, vacantPlace, sessionPlace, storePlace}
+
+-- a field of a part that was named u
+pub in-field : (d k : ℕ) (u v w : List ℕ) → u ≡ v → w ≡ field d k u → w ≡ field d k v
+in-field d k u v w e p = p ∙ ap (field d k) e
+
+pub same-of : (u v w : List ℕ) (b : Bool) → u ≡ v → b ≡ sameBytes u w → b ≡ sameBytes v w
+same-of u v w b e p = p ∙ ap (λ (z : List ℕ). sameBytes z w) e
+
+-- is_not_expired
+pub later-of : (u v : List ℕ) (a b : Moment) (r : Bool) (w : List ℕ) → u ≡ v → a ≡ timestampOf u → b ≡ timestampOf w → r ≡ isLater a b → r ≡ isLater (timestampOf v) (timestampOf w)
+later-of u v a b r w e p q o = rw (← e, ← p, ← q) o
+
+-- known_place
+pub place-named : (s t : List ℕ) (l : List SlotRow) (p : Place) → s ≡ t → placeOf p ≡ firstFrom (isNamed s) 0 l → placeOf p ≡ slotPlace t l
+place-named s t l p e q = rw (← e) q
+
+-- session_place
+module _ (s : List ℕ) (l : List SlotRow) (p : Place) (e : placeOf p ≡ slotPlace s l) where
+  pub session-known : (k : ℕ) → p ≡ At k → some k ≡ sessionPlace s l
+  unfolding sessionPlace
+  session-known k o = sym (rw (← e, o))
+
+  pub session-free : p ≡ Nothing → (q : Place) → placeOf q ≡ freePlace l → placeOf q ≡ sessionPlace s l
+  unfolding sessionPlace
+  session-free o q w = w ∙ sym (rw (← e, o))
+
+-- store_place
+module _ (g g′ k k′ : List ℕ) (a : g ≡ g′) (b : k ≡ k′) (l : List RegisterRow) (p : Place) (e : placeOf p ≡ firstFrom (isKeyOf g k) 0 l) where
+  pub store-held : (i : ℕ) → p ≡ At i → some i ≡ storePlace g′ k′ l
+  unfolding storePlace
+  store-held i o = sym (rw (← a, ← b, ← e, o))
+
+  pub store-vacant : p ≡ Nothing → (q : Place) → placeOf q ≡ vacantPlace l → placeOf q ≡ storePlace g′ k′ l
+  unfolding storePlace
+  store-vacant o q w = w ∙ sym (rw (← a, ← b, ← e, o))
+
+-- is_own_module: the length may pass the space
+module _ (u v w : List ℕ) (n : ℕ) (b : Bool) (e : u ≡ v) where
+  pub own-all : length w ≡ 128 → 128 < n → b ≡ sameBytes u w → b ≡ sameBytes v (take n w)
+  own-all z h p = rw (← e, take-all n w (omega arith)) p
+
+  pub own-part : b ≡ sameBytes u (take n w) → b ≡ sameBytes v (take n w)
+  own-part p = rw (← e) p
+
+pub part-room : (w : List ℕ) (n : ℕ) → length w ≡ 128 → n ≤ 128 → n ≤ length w
+part-room w n z h = omega arith
+
+pub part-length : (w : List ℕ) (n : ℕ) → length w ≡ 128 → n ≤ 128 → n ≡ length (take n w)
+part-length w n z h = sym (length-take-le n w (omega arith))
+
+-- has_session
+module _ (r : SlotRow) (t : Bool) (e : t ≡ hasState Pending r) where
+  pub session-pending : t ≡ true → true ≡ (hasState Pending r || hasState Loading r)
+  session-pending o = sym (rw (← e, o))
+
+  pub session-loading : t ≡ false → (b : Bool) → b ≡ hasState Loading r → b ≡ (hasState Pending r || hasState Loading r)
+  session-loading o b p = p ∙ sym (rw (← e, o))

@@ -1,0 +1,127 @@
+-- A decision is reached group by group of the questions, and tells the answer: what its command is, and that every question was a yes.
+use mathlib.Core.Path.{_≡_, refl, sym, ap, _∙_}
+use mathlib.Core.Bool.{Bool, true, false, cond, _&&_}
+use mathlib.Core.List.{List, [], _∷_, _++_}
+use mathlib.Core.Option.{Option, none, some}
+use Prim.Native.Nat.{ℕ}
+use Rattle.octets.proofs.Flags.{nope, and-first}
+use Rattle.fields.specs.Values.{Value}
+use Rattle.frames.specs.Frames.{isWhole, isChecked}
+use Rattle.commands.specs.declared.Command.{Command}
+use Rattle.commands.specs.declared.Command.the-variants.{RS, KC, KR, KL, KF, KX, KD, GA, GL, KQ, Unknown}
+use Rattle.engine.specs.Requests.{isBuilt, commandIn, fieldsIn, recordIn, slotIn}
+use Rattle.engine.specs.Questions.{Call, Question, _otherwise_, tableQuestions, messageQuestions, questions, firstNo}
+use Rattle.engine.specs.Answers.{effect, refused, answerTo, answerOf}
+use Rattle.engine.specs.Decisions.{decided, granted, laterQuestions, decisionFor, decisionOf}
+use Rattle.engine.specs.declared.Refusal.{Refusal}
+use Rattle.engine.specs.declared.Refusal.the-variants.{UnknownHeader}
+use Rattle.engine.specs.declared.Decision.{Decision}
+use Rattle.engine.specs.declared.Decision.the-variants.{Refuse, Reset, Pend, Open, Load, Finish, Delete, Clear}
+use Rattle.engine.proofs.QuestionLaws.{AllYes, all-yes}
+
+-- questions in two groups: the first no of the first, else of the second
+abbrev pub orNo : Option Refusal → Option Refusal → Option Refusal
+orNo (some r) o = some r
+orNo none o = o
+
+pub in-turn : (ps qs : List Question) → firstNo (ps ++ qs) ≡ orNo (firstNo ps) (firstNo qs)
+in-turn [] qs = refl
+in-turn ((true otherwise r) ∷ ps) qs = in-turn ps qs
+in-turn ((false otherwise r) ∷ ps) qs = refl
+
+-- the command that a decision carries out
+abbrev pub commandFor : Decision → Command
+commandFor (Refuse r) = Unknown
+commandFor Reset = RS
+commandFor (Pend k) = KC
+commandFor (Open k) = KR
+commandFor (Load k) = KL
+commandFor (Finish k) = KF
+commandFor (Delete k) = KX
+commandFor (Clear k) = KD
+
+abbrev pub isRefuse : Decision → Bool
+isRefuse (Refuse r) = true
+isRefuse Reset = false
+isRefuse (Pend k) = false
+isRefuse (Open k) = false
+isRefuse (Load k) = false
+isRefuse (Finish k) = false
+isRefuse (Delete k) = false
+isRefuse (Clear k) = false
+
+module _ (x : Call) (vs : List Value) (r s : List ℕ) where
+  granted-for : (c : Command) → isBuilt c ≡ true → (commandFor (granted x c vs r s) ≡ c) × (isRefuse (granted x c vs r s) ≡ false)
+  granted-for RS e = (refl, refl)
+  granted-for KC e = (refl, refl)
+  granted-for KR e = (refl, refl)
+  granted-for KL e = (refl, refl)
+  granted-for KF e = (refl, refl)
+  granted-for KX e = (refl, refl)
+  granted-for KD e = (refl, refl)
+  granted-for GA e = nope (cc)
+  granted-for GL e = nope (cc)
+  granted-for KQ e = nope (cc)
+  granted-for Unknown e = nope (cc)
+
+-- what is known where a decision is to carry out its command
+pub record Carried (x : Call) (d : Decision) : Type 0 where
+  pub yeses : AllYes (questions x)
+  pub command : commandIn (x .request) ≡ commandFor d
+  pub does : granted x (commandFor d) (fieldsIn (x .request)) (recordIn (commandFor d) (fieldsIn (x .request))) (slotIn (commandFor d) (fieldsIn (x .request))) ≡ d
+  pub answers : answerOf x ≡ effect x (commandFor d) (fieldsIn (x .request)) (recordIn (commandFor d) (fieldsIn (x .request))) (slotIn (commandFor d) (fieldsIn (x .request)))
+
+module _ (x : Call) where
+  abbrev c : Command
+  c = commandIn (x .request)
+
+  abbrev vs : List Value
+  vs = fieldsIn (x .request)
+
+  abbrev later : Option Refusal
+  later = firstNo (laterQuestions x c vs)
+
+  groups : firstNo (questions x) ≡ orNo (firstNo (tableQuestions x)) (orNo (firstNo (messageQuestions (x .request))) later)
+  unfolding questions
+  groups =
+      in-turn (tableQuestions x) (messageQuestions (x .request) ++ laterQuestions x c vs)
+      ∙ ap (orNo (firstNo (tableQuestions x))) (in-turn (messageQuestions (x .request)) (laterQuestions x c vs))
+
+  -- a no about tables, buffer or supplement
+  pub tables-refused : (r : Refusal) → firstNo (tableQuestions x) ≡ some r → Refuse r ≡ decisionOf x
+  unfolding decisionOf
+  tables-refused r e = sym (rw (groups, e))
+
+  module _ (t : firstNo (tableQuestions x) ≡ none) where
+    -- a no about the message
+    pub message-refused : (r : Refusal) → firstNo (messageQuestions (x .request)) ≡ some r → Refuse r ≡ decisionOf x
+    unfolding decisionOf
+    message-refused r e = sym (rw (groups, t, e))
+
+    -- else the command's own decision
+    pub command-decides : firstNo (messageQuestions (x .request)) ≡ none → (d : Decision) → d ≡ decisionFor x c vs → d ≡ decisionOf x
+    unfolding decisionOf decisionFor
+    command-decides e d p = p ∙ sym (rw (groups, t, e))
+
+  built : AllYes (questions x) → isBuilt c ≡ true
+  unfolding questions
+  built y = y .1 .1 .1 .1 .1 .1 .0
+
+  pub told : (r : Refusal) → decisionOf x ≡ Refuse r → answerOf x ≡ refused x r
+  unfolding decisionOf answerOf
+  told r e = go (firstNo (questions x)) refl e
+    where
+      go : (o : Option Refusal) → firstNo (questions x) ≡ o → decided o (granted x c vs (recordIn c vs) (slotIn c vs)) ≡ Refuse r → answerTo x o c vs ≡ refused x r
+      go (some q) w p = let z : q ≡ r = cc in ap (refused x) z
+      go none w p = let g = granted-for x vs (recordIn c vs) (slotIn c vs) c (built (all-yes (questions x) w)) .1 in nope (cc)
+
+  pub carried : (d : Decision) → decisionOf x ≡ d → isRefuse d ≡ false → Carried x d
+  unfolding decisionOf answerOf
+  carried d e n = go (firstNo (questions x)) refl e
+    where
+      go : (o : Option Refusal) → firstNo (questions x) ≡ o → decided o (granted x c vs (recordIn c vs) (slotIn c vs)) ≡ d → Carried x d
+      go (some q) w p = nope (cc)
+      go none w p =
+          let y = all-yes (questions x) w in
+          let g : c ≡ commandFor d = sym (granted-for x vs (recordIn c vs) (slotIn c vs) c (built y) .0) ∙ ap commandFor p in
+          record { yeses = y; command = g; does = rw (← g) p; answers = rw (w, ← g) refl }

@@ -1,0 +1,30 @@
+-- The call that tables by value, a supplement, a request and a response buffer make; and the tables after an answer to it.
+use Prim.Native.Nat.{ℕ}
+use mathlib.Core.List.{List, _++_}
+use lib.ListN.{drop}
+use Rattle.rows.specs.Places.{slotRows, registerRows}
+use Rattle.rows.specs.declared.Tables.{Tables}
+use Rattle.rows.specs.declared.Supplement.{Supplement}
+use Rattle.engine.specs.Questions.{Call}
+use Rattle.engine.specs.Answers.{Answer}
+
+-- of the places that there are, the rows are as many as the caller has; the counts are the caller's own, so that 33 rows are 33
+abbrev pub callIn : Tables → Supplement → List ℕ → ℕ → Call
+callIn t x request room = record {
+  slots = slotRows t;
+  registers = registerRows t;
+  slotCount = t .«slot_count»;
+  registerCount = t .«register_count»;
+  room = room;
+  supplement = x;
+  request = request;
+}
+
+-- the answer's rows, and the places beyond them as they were
+abbrev pub tablesAfter : Tables → Answer → Tables
+tablesAfter t a = record {
+  slots = a .slots ++ drop (t .«slot_count») (t .slots);
+  registers = a .registers ++ drop (t .«register_count») (t .registers);
+  «slot_count» = t .«slot_count»;
+  «register_count» = t .«register_count»;
+}

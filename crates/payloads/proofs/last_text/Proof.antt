@@ -1,0 +1,16 @@
+-- `payloads::last_text` meets its contract, a law a return.
+use Rattle.payloads.proofs.ReaderLaws.{no-text, text-and-more, text-alone}
+use Rattle.fields.proofs.ReadLaws.{boundCases}
+use borrow.Author.Needs.{needs}
+use Rattle.payloads.proofs.last_text.Statement.{statement}
+use Rattle.payloads.proofs.last_text.Tie as tie
+
+pub last-text-spec : {M : Type 1} → statement M
+last-text-spec =
+    tie.close
+    (tie.spec
+    (λ c κs. search needs)
+    (λ c. search needs)
+    (λ c. (search no-text, tt))
+    (λ c. (search text-and-more, tt))
+    (λ c. (search text-alone, (search boundCases, search boundCases))))

@@ -1,0 +1,12 @@
+-- `replies::refusal_number` meets its contract: the number of its entry.
+use Rattle.replies.proofs.ReplyLaws.{number-told}
+use borrow.Author.Needs.{needs}
+use Rattle.replies.proofs.refusal_number.Statement.{statement}
+use Rattle.replies.proofs.refusal_number.Tie as tie
+
+pub refusal-number-spec : {M : Type 1} → statement M
+refusal-number-spec =
+    tie.close
+    (tie.spec
+    (λ c κs. search needs)
+    (λ c. search number-told))

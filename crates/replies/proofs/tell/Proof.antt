@@ -1,0 +1,34 @@
+-- `replies::tell` meets its contract: a response for each way of telling.
+use Rattle.replies.proofs.ReplyLaws.{told-so}
+use borrow.Author.Needs.{needs}
+use Rattle.replies.proofs.tell.Statement.{statement}
+use Rattle.replies.proofs.tell.Tie as tie
+
+pub tell-spec : {M : Type 1} → statement M
+tell-spec =
+    tie.close
+    (tie.spec
+    (λ c. search needs)
+    (λ c. search needs)
+    (λ c κs. search needs)
+    (λ c. search needs)
+    (λ c. search needs)
+    (λ c κs. search needs)
+    (λ c. search needs)
+    (λ c κs. search needs)
+    (λ c. search needs)
+    (λ c. search needs)
+    (λ c κs. search needs)
+    (λ c. search needs)
+    (λ c κs. search needs)
+    (λ c. search needs)
+    (λ c. search needs)
+    (λ c κs. search needs)
+    (λ c. search needs)
+    (λ c. search (told-so, needs))
+    (λ c. search needs)
+    (λ c. search (told-so, needs))
+    (λ c. search needs)
+    (λ c. search (told-so, needs))
+    (λ c. search needs)
+    (λ c. search (told-so, needs)))

@@ -1,0 +1,35 @@
+-- The cases of a kept name and of two, each with what the code knows where it answers as premises; the loops are those over any rows.
+use mathlib.Core.Path.{_≡_, sym, ap, _∙_}
+use mathlib.Core.Bool.{Bool, true, false}
+use mathlib.Core.List.{List}
+use Prim.Native.Nat.{ℕ, _+_, _≤_, _<_}
+use lib.ListN.{length, getD, drop}
+use borrow.Author.Tests.{eq-eqb, ne-eqb}
+use Rattle.octets.specs.Strings.{sameBytes}
+use Rattle.rows.specs.Lists.{someRow, distinctRows, trimmed}
+use Rattle.rows.specs.Index.{isCalled, isSameName}
+use Rattle.rows.proofs.LoopLaws.{pairs-turn, pair-alike}
+
+-- is_called
+module _ (s name : List ℕ) where
+  pub called-nothing : length s ≡ 0 → false ≡ isCalled s name
+  unfolding isCalled
+  called-nothing o = rw (eq-eqb (length s) 0 o)
+
+  pub called : (length s ≡ 0 → ⊥) → (v : List ℕ) → v ≡ trimmed name → (b : Bool) → b ≡ sameBytes v s → b ≡ isCalled s name
+  unfolding isCalled
+  called o v p b q = rw (ne-eqb (length s) 0 o, ← p, q)
+
+-- are_names_distinct: a is the name at i without its zeros, and no name from i + 1 up to j is a
+module _ (l : List (List ℕ)) (x : Bool) (d a : List ℕ) (i j : ℕ) (left : someRow (isCalled a) (drop j l) ≡ someRow (isCalled a) (drop (i + 1) l)) (e : a ≡ trimmed (getD l i d))
+    (h : i < length l) (inv : distinctRows isSameName (drop i l) ≡ x) where
+  of-name : someRow (isSameName (getD l i d)) (drop j l) ≡ someRow (isSameName (getD l i d)) (drop (i + 1) l)
+  unfolding isSameName
+  of-name = rw e at left
+
+  pub names-turn : length l ≤ j → distinctRows isSameName (drop (i + 1) l) ≡ x
+  names-turn k = pairs-turn isSameName l x d i j h inv of-name k
+
+  pub names-alike : j < length l → (t : Bool) → t ≡ isCalled a (getD l j d) → t ≡ true → false ≡ x
+  unfolding isSameName
+  names-alike k t q o = pair-alike isSameName l x d i j h inv of-name k t (q ∙ ap (λ (s : List ℕ). isCalled s (getD l j d)) e) o

@@ -1,0 +1,93 @@
+// The table of slots: searches, the test of each row, and the sweep of GL?RS (document 01, "Slots and registers").
+use rows::Place;
+use rows::SlotRow;
+use rows::SlotState;
+ghost use mathlib.Core.Path.{_≡_};
+ghost use mathlib.Core.List.{map};
+ghost use Prim.Native.Nat.{_≤_};
+ghost use lib.ListN.{take};
+ghost use Rattle.rows.specs.Lists.{everyRow, firstFrom, mapped};
+ghost use Rattle.rows.specs.Slots.{hasState, isNamed, isSlotSound, resetSlot};
+ghost use Rattle.rows.specs.declared.SlotState.the-variants.{Free};
+ghost use Rattle.rows.specs.Places.{placeOf, PlaceWithin};
+ghost use Rattle.rows.specs.Index.{keptName};
+
+// The place of the slot with a name.
+pub fn slot_place(slots: [SlotRow; 8], n: usize, name: &[u8]) -> Place
+    requires { ⌜ n ≤ 8 ⌝ }
+    ensures { λ p. ⌜ placeOf p ≡ firstFrom (isNamed (now (name .entry))) 0 (take n slots) ⌝ }
+    ensures within { λ p. ⌜ PlaceWithin n p ⌝ }
+{
+    let mut i = 0;
+    while i < n {
+        let r = slots[i];
+        if slot_rows::is_named(r, name) {
+            return Place::At(i);
+        }
+        i += 1;
+    }
+    Place::Nothing
+}
+
+// The lowest free row.
+pub fn free_place(slots: [SlotRow; 8], n: usize) -> Place
+    requires { ⌜ n ≤ 8 ⌝ }
+    ensures { λ p. ⌜ placeOf p ≡ firstFrom (hasState Free) 0 (take n slots) ⌝ }
+    ensures within { λ p. ⌜ PlaceWithin n p ⌝ }
+{
+    let mut k = 0;
+    while k < n {
+        let r = slots[k];
+        if slot_rows::has_state(r, SlotState::Free) {
+            return Place::At(k);
+        }
+        k += 1;
+    }
+    Place::Nothing
+}
+
+// Whether each slot row is sound by itself.
+pub fn are_slots_sound(slots: [SlotRow; 8], n: usize) -> bool
+    requires { ⌜ n ≤ 8 ⌝ }
+    ensures { λ b. ⌜ b ≡ everyRow isSlotSound (take n slots) ⌝ }
+{
+    let mut i = 0;
+    while i < n {
+        let r = slots[i];
+        if !slot_rows::is_slot_sound(r) {
+            return false;
+        }
+        i += 1;
+    }
+    true
+}
+
+// The names as they are kept, of all places.
+pub fn names_of(slots: [SlotRow; 8]) -> [[u8; 40]; 8]
+    ensures { λ names. ⌜ names ≡ map keptName slots ⌝ }
+{
+    let mut names = [[0u8; 40]; 8];
+    let mut i = 0;
+    while i < 8 {
+        let r = slots[i];
+        let name = r.kmcid;
+        names[i] = name;
+        i += 1;
+    }
+    names
+}
+
+// GL?RS: the rows after it.
+pub fn reset_slots(slots: [SlotRow; 8], n: usize) -> [SlotRow; 8]
+    requires { ⌜ n ≤ 8 ⌝ }
+    ensures { λ r. ⌜ r ≡ mapped n resetSlot slots ⌝ }
+{
+    let mut after = slots;
+    let mut i = 0;
+    while i < n {
+        let r = after[i];
+        after[i] = slot_rows::reset_slot(r);
+        i += 1;
+    }
+    after
+}

@@ -1,0 +1,4 @@
+pub mod Readings
+pub mod NameLaws
+pub mod StoredValues
+pub mod KeyLaws

@@ -1,0 +1,63 @@
+-- A card as stored has each attribute, its value in form.
+use mathlib.Core.Path.{_≡_, refl}
+use mathlib.Core.Bool.{true, false, _&&_}
+use mathlib.Core.List.{List, [], _∷_}
+use Prim.Native.Nat.{ℕ, zero, suc, _+_}
+use native.Mathlib.Omega.{arith}
+use lib.Dec.{T, eqb, ltb}
+use lib.ListN.{length, take, drop}
+use borrow.Author.Tests.{ltb-true, eqb-true, eq-eqb}
+use Rattle.octets.proofs.Flags.{and-first, and-second, and-left, and-right, no}
+use Rattle.pieces.specs.Pieces.{pieces}
+use Rattle.pieces.proofs.PieceLaws.{pieces-first}
+use Rattle.forms.specs.Forms.{inForm}
+use Rattle.cards.specs.Entries.{nameOf, valueIn, valueOf, orElse}
+use Rattle.cards.proofs.EntryLaws.{a-name}
+use Rattle.attributes.specs.Table.{table, name, form}
+use Rattle.attributes.specs.declared.Attribute.{Attribute}
+use Rattle.attributes.proofs.TableLaws.{allRows, at-row, name-some}
+use Rattle.stored_cards.specs.Stored.{entryLength, isEntryOf, isStoredFrom, isStored}
+use Rattle.card_laws.proofs.RoundTrip.{isOther, isDistinct, all-distinct}
+
+-- the first entry, and what follows it
+module _ (x : Attribute) (rs : List Attribute) (s : List ℕ) (e : isStoredFrom (x ∷ rs) s ≡ true) where
+  abbrev entry : List ℕ
+  entry = take (entryLength s) s
+
+  abbrev behind : List ℕ
+  behind = drop (entryLength s + 1) s
+
+  first-piece : pieces 59 s ≡ entry ∷ pieces 59 behind
+  first-piece = pieces-first 59 s (ltb-true (entryLength s) (length s) (and-first (ltb (entryLength s) (length s)) (isEntryOf x entry && isStoredFrom rs behind) e))
+
+  both : (isEntryOf x entry && isStoredFrom rs behind) ≡ true
+  both = and-second (ltb (entryLength s) (length s)) (isEntryOf x entry && isStoredFrom rs behind) e
+
+  entry-name : nameOf entry ≡ name x
+  unfolding isEntryOf
+  entry-name = eqb-true (nameOf entry) (name x) (and-first (eqb (nameOf entry) (name x)) (inForm (form x) (drop 3 entry)) (and-first (isEntryOf x entry) (isStoredFrom rs behind) both))
+
+  entry-form : inForm (form x) (drop 3 entry) ≡ true
+  unfolding isEntryOf
+  entry-form = and-second (eqb (nameOf entry) (name x)) (inForm (form x) (drop 3 entry)) (and-first (isEntryOf x entry) (isStoredFrom rs behind) both)
+
+  stored-behind : isStoredFrom rs behind ≡ true
+  stored-behind = and-second (isEntryOf x entry) (isStoredFrom rs behind) both
+
+stored-from : (rs : List Attribute) → T (isDistinct rs) → (s : List ℕ) → isStoredFrom rs s ≡ true → (k : ℕ) (a : Attribute) (r : List Attribute) → drop k rs ≡ a ∷ r
+    → inForm (form a) (orElse (valueIn (name a) (pieces 59 s)) []) ≡ true
+stored-from [] d s e k a r q = absurd (at-row (λ (x : Attribute). false) [] tt k a r q)
+stored-from (x ∷ rs) d s e zero a r q =
+    let h : x ≡ a = cc in
+    rw (← h, first-piece x rs s e, entry-name x rs s e, eq-eqb (name x) (name x) refl) (entry-form x rs s e)
+stored-from (x ∷ rs) d s e (suc k) a r q =
+    let o = at-row (isOther x) rs (and-left (allRows (isOther x) rs) (isDistinct rs) d) k a r q in
+    let n : eqb (name x) (name a) ≡ false = no (eqb (name x) (name a)) o in
+    rw (first-piece x rs s e, entry-name x rs s e, n)
+    (stored-from rs (and-right (allRows (isOther x) rs) (isDistinct rs) d) (drop (entryLength s + 1) s) (stored-behind x rs s e) k a r q)
+
+pub stored-in-form : (s : List ℕ) → isStored s ≡ true → (k : ℕ) (a : Attribute) (r : List Attribute) → drop k table ≡ a ∷ r → inForm (form a) (orElse (valueOf (name a) s) []) ≡ true
+unfolding isStored
+stored-in-form s e k a r q =
+    rw (a-name s (name a) (λ z. omega (arith, name-some k a r q)))
+    at (stored-from table all-distinct s (and-second (eqb (length s) 256) (isStoredFrom table s) e) k a r q)
