@@ -3,3 +3,4 @@ pub mod Flat
 pub mod Asking
 pub mod DecideLaws
 pub mod WordLaws
+pub mod CallLaws

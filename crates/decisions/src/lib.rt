@@ -137,7 +137,10 @@ fn is_own_module(r: &[u8], x: Supplement) -> bool
 fn has_fingerprint(r: &[u8], row: SlotRow) -> bool
     ensures { λ b. ⌜ b ≡ sameBytes (fingerprintIn (kmcIdentityIn (now (r .entry)))) (row .fingerprint) ⌝ }
 {
-    octets::same_bytes(records::field(records::field(r, 124, 1), 58, 4), &row.fingerprint)
+    octets::same_bytes(
+        records::field(records::field(r, 124, 1), 58, 4),
+        &row.fingerprint,
+    )
 }
 
 // The TVP is the slot's.
@@ -235,12 +238,25 @@ fn decide_store(registers: [RegisterRow; 32], m: usize, x: Supplement, r: &[u8])
 }
 
 // SM?KL: questions 8 and on.
-fn decide_load(slots: [SlotRow; 8], n: usize, registers: [RegisterRow; 32], m: usize, x: Supplement, payload: &[u8]) -> Decision
+fn decide_load(
+    slots: [SlotRow; 8],
+    n: usize,
+    registers: [RegisterRow; 32],
+    m: usize,
+    x: Supplement,
+    payload: &[u8],
+) -> Decision
     requires { ⌜ (n ≤ 8) × (m ≤ 32) ⌝ }
     ensures { λ d. ⌜ ((c : Call) → c .slots ≡ take n slots → c .registers ≡ take m registers → c .supplement ≡ x → d ≡ decisionFor c KL (valuesOf (now (payload .entry)))) ⌝ }
 {
     let f = payloads::two_texts(payload);
-    let TwoTexts::At { start, end, from, to } = f else {
+    let TwoTexts::At {
+        start,
+        end,
+        from,
+        to,
+    } = f
+    else {
         return Decision::Refuse(Refusal::BadFields);
     };
     let r = &payload[from..to];
@@ -336,4 +352,100 @@ fn decide_clear(registers: [RegisterRow; 32], m: usize, payload: &[u8]) -> Decis
         return Decision::Refuse(Refusal::EmptyRegister);
     }
     Decision::Clear(n - 1)
+}
+
+// What is left once the message is right, by its command.
+fn decide_command(
+    c: Command,
+    slots: [SlotRow; 8],
+    n: usize,
+    registers: [RegisterRow; 32],
+    m: usize,
+    x: Supplement,
+    payload: &[u8],
+) -> Decision
+    requires { ⌜ (n ≤ 8) × (m ≤ 32) × (isBuilt c ≡ true) ⌝ }
+    ensures { λ d. ⌜ ((k : Call) → k .slots ≡ take n slots → k .registers ≡ take m registers → k .supplement ≡ x → d ≡ decisionFor k c (valuesOf (now (payload .entry)))) ⌝ }
+{
+    match c {
+        Command::RS => decide_reset(payload),
+        Command::KC => decide_pend(slots, n, x, payload),
+        Command::KR => decide_open(slots, n, x, payload),
+        Command::KL => decide_load(slots, n, registers, m, x, payload),
+        Command::KF => decide_finish(slots, n, payload),
+        Command::KX => decide_delete(slots, n, payload),
+        Command::KD => decide_clear(registers, m, payload),
+        Command::GA => Decision::Refuse(Refusal::UnknownHeader),
+        Command::GL => Decision::Refuse(Refusal::UnknownHeader),
+        Command::KQ => Decision::Refuse(Refusal::UnknownHeader),
+        Command::Unknown => Decision::Refuse(Refusal::UnknownHeader),
+    }
+}
+
+// Question 1: 1 to 8 slots and 1 to 32 registers.
+fn are_counts(n: usize, m: usize) -> bool
+    ensures { λ b. ⌜ b ≡ areCounts n m ⌝ }
+{
+    if n < 1 {
+        return false;
+    }
+    if 8 < n {
+        return false;
+    }
+    if m < 1 {
+        return false;
+    }
+    m <= 32
+}
+
+// Question 7: whether the command is one of those that are answered.
+fn is_built(c: Command) -> bool
+    ensures { λ b. ⌜ b ≡ isBuilt c ⌝ }
+{
+    match c {
+        Command::RS => true,
+        Command::KC => true,
+        Command::KR => true,
+        Command::KL => true,
+        Command::KF => true,
+        Command::KX => true,
+        Command::KD => true,
+        Command::GA => false,
+        Command::GL => false,
+        Command::KQ => false,
+        Command::Unknown => false,
+    }
+}
+
+// What is to be done with a request.
+pub fn decide(t: Tables, x: Supplement, request: &[u8], room: usize) -> Decision
+    ensures { λ d. ⌜ d ≡ decisionOf (callIn t x (now (request .entry)) room) ⌝ }
+{
+    let n = t.slot_count;
+    let m = t.register_count;
+    if !are_counts(n, m) {
+        return Decision::Refuse(Refusal::RowCounts);
+    }
+    if room < 1024 {
+        return Decision::Refuse(Refusal::ShortBuffer);
+    }
+    let slots = t.slots;
+    let registers = t.registers;
+    if !soundness::are_rows_sound(slots, n, registers, m) {
+        return Decision::Refuse(Refusal::UnsoundRows);
+    }
+    if !supplements::is_well_formed(x) {
+        return Decision::Refuse(Refusal::BadSupplement);
+    }
+    if !frames::is_whole(request) {
+        return Decision::Refuse(Refusal::BadFrame);
+    }
+    if !frames::is_checked(request) {
+        return Decision::Refuse(Refusal::BadChecksum);
+    }
+    let c = commands::command_of(frames::header(request));
+    if !is_built(c) {
+        return Decision::Refuse(Refusal::UnknownHeader);
+    }
+    decide_command(c, slots, n, registers, m, x, frames::payload(request))
 }

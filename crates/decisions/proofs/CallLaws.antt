@@ -1,0 +1,139 @@
+-- The questions of a whole call in turn, each with what the code knows where it answers as premises; the first seven are the same for every command.
+use mathlib.Core.Path.{_≡_, refl, sym, ap, _∙_}
+use mathlib.Core.Bool.{Bool, true, false, cond, not, _&&_}
+use mathlib.Core.List.{List, [], _∷_}
+use mathlib.Core.Option.{Option, none, some}
+use Prim.Native.Nat.{ℕ, _≤_, _<_}
+use lib.Dec.{leb}
+use lib.ListN.{take}
+use borrow.Author.Tests.{le-leb, lt-leb, leb-true, not-true, not-false}
+use Rattle.octets.proofs.Flags.{nope, and-first, and-second}
+use Rattle.fields.specs.Values.{Value, valuesOf}
+use Rattle.frames.specs.Frames.{isWhole, isChecked, headerOf, payloadOf}
+use Rattle.commands.specs.Commands.{commandOf}
+use Rattle.commands.specs.declared.Command.{Command}
+use Rattle.commands.specs.declared.Command.the-variants.{RS, KC, KR, KL, KF, KX, KD, GA, GL, KQ, Unknown}
+use Rattle.rows.specs.Sound.{areSound}
+use Rattle.rows.specs.Supplements.{isWellFormed}
+use Rattle.rows.specs.declared.SlotRow.{SlotRow}
+use Rattle.rows.specs.declared.RegisterRow.{RegisterRow}
+use Rattle.rows.specs.declared.Supplement.{Supplement}
+use Rattle.rows.specs.declared.Tables.{Tables}
+use Rattle.engine.specs.Requests.{isBuilt}
+use Rattle.engine.specs.Questions.{Call, areCounts, tableQuestions, messageQuestions, firstNo}
+use Rattle.engine.specs.Calls.{callIn}
+use Rattle.engine.specs.Decisions.{decisionFor, decisionOf}
+use Rattle.engine.specs.declared.Refusal.the-variants.{RowCounts, ShortBuffer, UnsoundRows, BadSupplement, BadFrame, BadChecksum, UnknownHeader}
+use Rattle.engine.specs.declared.Decision.{Decision}
+use Rattle.engine.specs.declared.Decision.the-variants.{Refuse}
+use Rattle.engine.proofs.DecisionLaws.{tables-refused, message-refused, command-decides}
+
+-- decide_command: an arm of the match, by what its command is asked about
+module _ (c o : Command) (e : c ≡ o) (vs : List Value) (d : Decision) where
+  pub arm-fields : ((k : Call) → d ≡ decisionFor k o vs) → (k : Call) → d ≡ decisionFor k c vs
+  arm-fields all k = rw e (all k)
+
+  pub arm-slots : (l : List SlotRow) → ((k : Call) → k .slots ≡ l → d ≡ decisionFor k o vs) → (k : Call) → k .slots ≡ l → d ≡ decisionFor k c vs
+  arm-slots l all k h = rw e (all k h)
+
+  pub arm-registers : (l : List RegisterRow) → ((k : Call) → k .registers ≡ l → d ≡ decisionFor k o vs) → (k : Call) → k .registers ≡ l → d ≡ decisionFor k c vs
+  arm-registers l all k h = rw e (all k h)
+
+  pub arm-session : (l : List SlotRow) (x : Supplement) → ((k : Call) → k .slots ≡ l → k .supplement ≡ x → d ≡ decisionFor k o vs) → (k : Call) → k .slots ≡ l → k .supplement ≡ x → d ≡ decisionFor k c vs
+  arm-session l x all k h g = rw e (all k h g)
+
+  pub arm-load : (l : List SlotRow) (r : List RegisterRow) (x : Supplement) → ((k : Call) → k .slots ≡ l → k .registers ≡ r → k .supplement ≡ x → d ≡ decisionFor k o vs)
+      → (k : Call) → k .slots ≡ l → k .registers ≡ r → k .supplement ≡ x → d ≡ decisionFor k c vs
+  arm-load l r x all k h i g = rw e (all k h i g)
+
+pub ruleset arms = (arm-fields, arm-slots, arm-registers, arm-session, arm-load)
+
+-- a command that is not built does not come so far
+pub no-arm : (c o : Command) → c ≡ o → isBuilt c ≡ true → isBuilt o ≡ false → (k : Call) (vs : List Value) (d : Decision) → d ≡ decisionFor k c vs
+no-arm c o e p q k vs d = nope (cc)
+
+-- is_built
+pub built-arm : (c o : Command) → c ≡ o → (b : Bool) → b ≡ isBuilt o → b ≡ isBuilt c
+built-arm c o e b p = rw e p
+
+pub is-built : (c : Command) (b : Bool) → b ≡ isBuilt c → not b ≡ false → isBuilt c ≡ true
+is-built c b p o = sym p ∙ not-false b o
+
+-- are_counts
+module _ (n m : ℕ) where
+  pub no-slots : n < 1 → false ≡ areCounts n m
+  unfolding areCounts
+  no-slots h = sym (rw (lt-leb 1 n h))
+
+  module _ (h : 1 ≤ n) where
+    pub many-slots : 8 < n → false ≡ areCounts n m
+    unfolding areCounts
+    many-slots k = sym (rw (le-leb 1 n h, lt-leb n 8 k))
+
+    module _ (k : n ≤ 8) where
+      pub no-registers : m < 1 → false ≡ areCounts n m
+      unfolding areCounts
+      no-registers i = sym (rw (le-leb 1 n h, le-leb n 8 k, lt-leb 1 m i))
+
+      pub registers-counted : 1 ≤ m → leb m 32 ≡ areCounts n m
+      unfolding areCounts
+      registers-counted i = sym (rw (le-leb 1 n h, le-leb n 8 k, le-leb 1 m i))
+
+pub ruleset counted = (no-slots, many-slots, no-registers, registers-counted)
+
+-- counts that are in range
+module _ (n m : ℕ) (a : Bool) (p : a ≡ areCounts n m) (o : not a ≡ false) where
+  in-range : areCounts n m ≡ true
+  in-range = sym p ∙ not-false a o
+
+  pub few-slots : n ≤ 8
+  unfolding areCounts
+  few-slots = leb-true n 8 (and-first (leb n 8) _ (and-second (leb 1 n) _ in-range))
+
+  pub few-registers : m ≤ 32
+  unfolding areCounts
+  few-registers = leb-true m 32 (and-second (leb 1 m) (leb m 32) (and-second (leb n 8) _ (and-second (leb 1 n) _ in-range)))
+
+-- decide
+module _ (t : Tables) (x : Supplement) (q : List ℕ) (room : ℕ) (a : Bool) (p : a ≡ areCounts (t .«slot_count») (t .«register_count»)) where
+  pub counts-refused : not a ≡ true → Refuse RowCounts ≡ decisionOf (callIn t x q room)
+  counts-refused o = tables-refused (callIn t x q room) RowCounts (rw (← p, not-true a o))
+
+  module _ (o : not a ≡ false) where
+    pub room-refused : room < 1024 → Refuse ShortBuffer ≡ decisionOf (callIn t x q room)
+    room-refused h = tables-refused (callIn t x q room) ShortBuffer (rw (← p, not-false a o, lt-leb 1024 room h))
+
+    module _ (h : 1024 ≤ room) (b : Bool) (r : b ≡ areSound (take (t .«slot_count») (t .slots)) (take (t .«register_count») (t .registers))) where
+      pub rows-refused : not b ≡ true → Refuse UnsoundRows ≡ decisionOf (callIn t x q room)
+      rows-refused i = tables-refused (callIn t x q room) UnsoundRows (rw (← p, not-false a o, le-leb 1024 room h, ← r, not-true b i))
+
+      module _ (i : not b ≡ false) (c : Bool) (s : c ≡ isWellFormed x) where
+        pub supplement-refused : not c ≡ true → Refuse BadSupplement ≡ decisionOf (callIn t x q room)
+        supplement-refused j = tables-refused (callIn t x q room) BadSupplement (rw (← p, not-false a o, le-leb 1024 room h, ← r, not-false b i, ← s, not-true c j))
+
+        module _ (j : not c ≡ false) (d : Bool) (u : d ≡ isWhole q) where
+          tables-right : firstNo (tableQuestions (callIn t x q room)) ≡ none
+          tables-right = rw (← p, not-false a o, le-leb 1024 room h, ← r, not-false b i, ← s, not-false c j)
+
+          pub frame-refused : not d ≡ true → Refuse BadFrame ≡ decisionOf (callIn t x q room)
+          frame-refused k = message-refused (callIn t x q room) tables-right BadFrame (rw (← u, not-true d k))
+
+          module _ (k : not d ≡ false) (e : Bool) (v : e ≡ isChecked q) where
+            pub checksum-refused : not e ≡ true → Refuse BadChecksum ≡ decisionOf (callIn t x q room)
+            checksum-refused l = message-refused (callIn t x q room) tables-right BadChecksum (rw (← u, not-false d k, ← v, not-true e l))
+
+            module _ (l : not e ≡ false) (head : List ℕ) (w : head ≡ headerOf q) (command : Command) (y : command ≡ commandOf head) (f : Bool) (z : f ≡ isBuilt command) where
+              its-command : commandOf (headerOf q) ≡ command
+              its-command = ap commandOf (sym w) ∙ sym y
+
+              pub header-refused : not f ≡ true → Refuse UnknownHeader ≡ decisionOf (callIn t x q room)
+              header-refused g = message-refused (callIn t x q room) tables-right UnknownHeader (rw (← u, not-false d k, ← v, not-false e l, its-command, ← z, not-true f g))
+
+              pub command-decided : not f ≡ false → (payload : List ℕ) → payload ≡ payloadOf q → (g : Decision)
+                  → ((n : Call) → n .slots ≡ take (t .«slot_count») (t .slots) → n .registers ≡ take (t .«register_count») (t .registers) → n .supplement ≡ x → g ≡ decisionFor n command (valuesOf payload))
+                  → g ≡ decisionOf (callIn t x q room)
+              command-decided i payload same g all =
+                  let m : firstNo (messageQuestions q) ≡ none = rw (← u, not-false d k, ← v, not-false e l, its-command, ← z, not-false f i) in
+                  command-decides (callIn t x q room) tables-right m g (rw (its-command, ← same) (all (callIn t x q room) refl refl refl))
+
+pub ruleset called = (counts-refused, room-refused, rows-refused, supplement-refused, frame-refused, checksum-refused, header-refused, command-decided)
