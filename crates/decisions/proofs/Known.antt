@@ -14,6 +14,7 @@ use Rattle.rows.specs.Places.{placeOf, PlaceWithin}
 use Rattle.rows.specs.declared.Place.{Place}
 use Rattle.rows.specs.declared.Place.the-variants.{At, Nothing}
 use Rattle.rows.specs.declared.SlotRow.{SlotRow}
+use Rattle.rows.proofs.PlaceCounts.{getD-any}
 use Rattle.engine.specs.Questions.{slotNamed}
 
 -- a place that was found lies among the rows
@@ -27,11 +28,6 @@ place-in n m p k v o h = let z = place-below n p k v o in omega arith
 -- a slot row has 73 bytes
 pub place-fits : (n : ℕ) (p : Place) (k : ℕ) → PlaceWithin n p → p ≡ At k → n ≤ 8 → k * 73 < 2 ^ 64
 place-fits n p k v o h = let z = place-below n p k v o in omega arith
-
-pub getD-any : {A : Type 0} (l : List A) (k : ℕ) (d e : A) → k < length l → getD l k d ≡ getD l k e
-getD-any [] k d e h = absurd (omega arith)
-getD-any (x ∷ xs) zero d e h = refl
-getD-any (x ∷ xs) (suc k) d e h = getD-any xs k d e (omega arith)
 
 -- the row of a slot that was found
 pub row-named : (l : List SlotRow) (n k : ℕ) (s : List ℕ) (d : SlotRow) → length l ≡ 8 → n ≤ 8 → k < n → firstFrom (isNamed s) 0 (take n l) ≡ some k → getD l k d ≡ slotNamed s (take n l)

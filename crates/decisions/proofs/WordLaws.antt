@@ -25,7 +25,7 @@ use Rattle.rows.specs.declared.SlotRow.{SlotRow}
 use Rattle.rows.specs.declared.RegisterRow.{RegisterRow}
 use Rattle.rows.specs.declared.SlotState.the-variants.{Free, Pending, Loading}
 use Rattle.engine.specs.Questions.{slotPlace, freePlace, keyPlace, vacantPlace, sessionPlace, storePlace, isFilled}
-use Rattle.decisions.proofs.Known.{getD-any}
+use Rattle.rows.proofs.PlaceCounts.{getD-any}
 
 -- a field of a part that was named u
 pub in-field : (d k : ℕ) (u v w : List ℕ) → u ≡ v → w ≡ field d k u → w ≡ field d k v

@@ -1,0 +1,14 @@
+-- `request_parts::kmcid_text` meets its contract.
+use Rattle.request_parts.proofs.PartLaws.{in-field}
+use borrow.Author.Needs.{needs}
+use Rattle.request_parts.proofs.kmcid_text.Statement.{statement}
+use Rattle.request_parts.proofs.kmcid_text.Tie as tie
+
+pub kmcid-text-spec : {M : Type 1} → statement M
+kmcid-text-spec =
+    tie.close
+    (tie.spec
+    (λ c κs. search needs)
+    (λ c κs. search needs)
+    (λ c κs. search needs)
+    (λ c. search in-field))

@@ -1,0 +1,17 @@
+-- `request_parts::loaded_card` meets its contract: the card is written from the request's own strings.
+use Rattle.request_parts.proofs.PartLaws.{in-field, card-room, card-made, card-measured}
+use borrow.Author.Needs.{needs}
+use Rattle.request_parts.proofs.loaded_card.Statement.{statement}
+use Rattle.request_parts.proofs.loaded_card.Tie as tie
+
+pub loaded-card-spec : {M : Type 1} → statement M
+loaded-card-spec =
+    tie.close
+    (tie.spec
+    (λ c κs. search needs)
+    (λ c κs. search needs)
+    (λ c. search needs)
+    (λ c κs. search needs)
+    (λ c. search needs)
+    (λ c κs. search (card-room, in-field))
+    (λ c. (search (card-made, in-field), search (card-measured, in-field))))

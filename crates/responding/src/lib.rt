@@ -1,0 +1,1 @@
+// The outcome and the response of a decision.
