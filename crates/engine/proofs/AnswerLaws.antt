@@ -90,11 +90,11 @@ module _ (x : Call) where
       go none d q = rw q refl
 
 -- a question that was not a yes has the refusal of the first no
-abbrev allHold : (Refusal → Bool) → List Question → Bool
+abbrev pub allHold : (Refusal → Bool) → List Question → Bool
 allHold f [] = true
 allHold f ((b otherwise r) ∷ qs) = cond (f r) b true && allHold f qs
 
-held-not : (f : Refusal → Bool) (qs : List Question) (r : Refusal) → allHold f qs ≡ true → firstNo qs ≡ some r → f r ≡ false
+pub held-not : (f : Refusal → Bool) (qs : List Question) (r : Refusal) → allHold f qs ≡ true → firstNo qs ≡ some r → f r ≡ false
 held-not f [] r h e = nope (cc)
 held-not f ((true otherwise q) ∷ qs) r h e = held-not f qs r (and-second (cond (f q) true true) (allHold f qs) h) e
 held-not f ((false otherwise q) ∷ qs) r h e = go (f q) refl (and-first (cond (f q) false true) (allHold f qs) h)

@@ -21,13 +21,13 @@ use Rattle.engine.proofs.Steps.{does}
 answer-is : (a : Answer) (buffer : List ℕ) → answerBytes a buffer ≡ a .response
 answer-is a buffer = take-at (a .response) (drop (length (a .response)) buffer) (length (a .response)) refl
 
-abbrev rowsOf : Lent → Tables
+abbrev pub rowsOf : Lent → Tables
 rowsOf t = tablesOf (t .slots) (t .registers)
 
 steps : (t : Lent) (e : Handed) → Step (rowsOf t) (itemAt t e) (rowsOf (rowsAfter t e))
 steps t e = rw (answer-is (answerOf (callOf t e)) (e .buffer)) (does (callOf t e) refl)
 
-starts-empty : (a b : ℕ) → rowsOf (emptyRows a b) ≡ empty a b
+pub starts-empty : (a b : ℕ) → rowsOf (emptyRows a b) ≡ empty a b
 unfolding emptyRows empty
 starts-empty a b = rw (map-replicate slotIs a freeSlot, map-replicate registerIs b freeRegister, free-reads, free-register-reads) refl
 

@@ -35,14 +35,14 @@ known-from slots s (some i) e h = let m = found (isNamed s) freeSlot slots i e i
 pub known-at : (slots : List SlotRow) (s : List ℕ) → isPlace (slotPlace s slots) ≡ true → KnownAt slots s
 known-at slots s h = known-from slots s (slotPlace s slots) refl h
 
-free-sound : isSlotSound freeSlot ≡ true
+pub free-sound : isSlotSound freeSlot ≡ true
 unfolding isSlotSound freeSlot isZeroSlot areAll
 free-sound = refl
 
 pub sound-at : (slots : List SlotRow) → everyRow isSlotSound slots ≡ true → (i : ℕ) → isSlotSound (getD slots i freeSlot) ≡ true
 sound-at slots h i = every-at isSlotSound freeSlot free-sound slots h i
 
-free-unnamed : (s : List ℕ) → isNamed s freeSlot ≡ false
+pub free-unnamed : (s : List ℕ) → isNamed s freeSlot ≡ false
 unfolding isNamed freeSlot
 free-unnamed s = refl
 
@@ -87,7 +87,7 @@ pub record HomeAt (slots : List SlotRow) (registers : List RegisterRow) (g k : L
   pub within : place < length registers
   pub home : Home (tablesOf slots registers) g k place
 
-free-keyless : (g k : List ℕ) → isKeyOf g k freeRegister ≡ false
+pub free-keyless : (g k : List ℕ) → isKeyOf g k freeRegister ≡ false
 unfolding isKeyOf
 free-keyless g k = rw free-vacant refl
 

@@ -159,8 +159,8 @@ effect-back x n KR vs y e =
     let i = row-identifier x KR vs y (known-at (x .slots) (slotIn KR vs) (y .known)) in
     yes-back x KR vs y e (string (slotIn KR vs) ∷ []) (rw (name-text (slotIn KR vs) i) refl)
 effect-back x n KL vs y e =
-    rw (kl-response x vs y n)
-    (yes-back x KL vs y e (reply x vs y n) (rw (le-leb (register-at x vs y n .place + 1) 2147483647 (is-low x vs y n), is-text x vs y n) refl))
+    rw (kl-response x vs y)
+    (yes-back x KL vs y e (reply x vs y) (rw (le-leb (register-at x vs y .place + 1) 2147483647 (is-low x vs y n), is-text x vs y) refl))
 effect-back x n KF vs y e = yes-back x KF vs y e [] refl
 effect-back x n KX vs y e = yes-back x KX vs y e [] refl
 effect-back x n KD vs y e = yes-back x KD vs y e [] refl

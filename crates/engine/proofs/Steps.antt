@@ -40,7 +40,7 @@ use Rattle.rows.specs.declared.RegisterRow.{RegisterRow}
 use Rattle.rows.specs.declared.SlotState.{SlotState}
 use Rattle.rows.specs.declared.SlotState.the-variants.{Free, Pending, Loading, Idle}
 use Rattle.rows.proofs.ListLaws.{map-set, map-sweep, every-true}
-use Rattle.history.specs.Model.{State, pending, loading, idle, used, free, vacant, key, kl, loaded, _⇒_, dropKey, dropSlot, stopped, reset}
+use Rattle.history.specs.Model.{State, pending, loading, idle, used, free, vacant, key, kl, loaded, Item, _⇒_, dropKey, dropSlot, stopped, reset}
 use Rattle.history.specs.Step.{Step, refuses, starts, responds, loads, finishes, deletes, clears, resets}
 use Rattle.engine.specs.Requests.{commandIn, fieldsIn, isBuilt, registerIn, recordIn, kmcIdentityIn, slotIn, cardIn, firstText, secondText}
 use Rattle.engine.specs.Questions.{Call, asked, areCounts, isPlace, slotPlace, sessionPlace, storePlace, slotNamed, placeIn, isFilled, groupIn, revisionIn, questions, questionsOf, firstNo}
@@ -53,9 +53,13 @@ use Rattle.engine.proofs.QuestionLaws.{AllYes, all-yes}
 use Rattle.engine.proofs.AnswerWords.{header-five, accepted-said, refusal-said}
 use Rattle.engine.proofs.Places.{KnownAt, known-at, sound-at, SpotAt, spot-at, HomeAt, home-at}
 
+-- the rows after an answer are those after a step of the item
+abbrev pub Moves : Call → Item → Answer → Type 0
+Moves x ι a = Step (tablesOf (x .slots) (x .registers)) ι (tablesOf (a .slots) (a .registers))
+
 -- an answer to a call with the command c and the fields vs is a step
 abbrev pub Does : Call → Command → List Value → Answer → Type 0
-Does x c vs a = Step (tablesOf (x .slots) (x .registers)) (itemFor (requestOf c vs) (a .response)) (tablesOf (a .slots) (a .registers))
+Does x c vs a = Moves x (itemFor (requestOf c vs) (a .response)) a
 
 -- what is known of an accepted request
 pub record Yes (x : Call) (c : Command) (vs : List Value) : Type 0 where
@@ -116,7 +120,7 @@ module _ (x : Call) (c : Command) (vs : List Value) (y : Yes x c vs) (k : KnownA
   row-reads : getD (map slotIs (x .slots)) (k .place) free ≡ used s (stateIn (v .state))
   row-reads = slot-row (x .slots) (k .place) ∙ named-reads v s (k .named)
 
-  row-is : slotNamed s (x .slots) ≡ v
+  pub row-is : slotNamed s (x .slots) ≡ v
   unfolding slotNamed
   row-is = rw (k .is) refl
 
@@ -186,8 +190,8 @@ does-rs : (x : Call) (vs : List Value) → Yes x RS vs → Does x RS vs (effect 
 unfolding answered reset
 does-rs x vs y = rw (says-yes x RS vs y, rs-slots x vs y) resets
 
--- a reply's register and card
-module _ (x : Call) (vs : List Value) (y : Yes x KL vs) (n : x .registerCount ≡ length (x .registers)) where
+-- a key that is loaded: the rows after it
+module _ (x : Call) (vs : List Value) (y : Yes x KL vs) where
   abbrev pub name : List ℕ
   name = slotIn KL vs
 
@@ -203,14 +207,14 @@ module _ (x : Call) (vs : List Value) (y : Yes x KL vs) (n : x .registerCount �
   pub register-at : HomeAt (x .slots) (x .registers) (groupIn card) (revisionIn card)
   register-at = home-at (x .slots) (x .registers) (groupIn card) (revisionIn card) (y .home)
 
-  is-name : isIdentifier name ≡ true
+  pub is-name : isIdentifier name ≡ true
   is-name = row-identifier x KL vs y slot-at
 
-  is-card : isIncoming card ≡ true
+  pub is-card : isIncoming card ≡ true
   unfolding keyInForm
   is-card = and-first (isIncoming card) _ (and-second (inForm HexSome (field bar 1 (recordIn KL vs))) _ (y .form))
 
-  is-check : inForm (Hex 6) (x .supplement .check) ≡ true
+  pub is-check : inForm (Hex 6) (x .supplement .check) ≡ true
   unfolding isWellFormed
   is-check =
       let z = x .supplement in
@@ -224,18 +228,6 @@ module _ (x : Call) (vs : List Value) (y : Yes x KL vs) (n : x .registerCount �
   unfolding loadedCard
   is-reading = loaded-reads card (x .supplement .check) name is-card is-check is-name
 
-  pub is-low : register-at .place + 1 ≤ 2147483647
-  unfolding areCounts
-  is-low =
-      let m = leb-true (x .registerCount) 32 (and-second (leb 1 (x .registerCount)) _ (and-second (leb (x .slotCount) 8) _ (and-second (leb 1 (x .slotCount)) _ (y .counts)))) in
-      omega (arith, n, register-at .within)
-
-  abbrev pub reply : List Value
-  reply = number (register-at .place + 1) ∷ string stored ∷ []
-
-  reply-reads : fieldsOf (responseBytes (headerOf (x .request)) accepted reply) ≡ reply
-  reply-reads = response-fields (headerOf (x .request)) accepted reply (header-five (x .request) (y .whole)) refl (rw (le-leb (register-at .place + 1) 2147483647 is-low, is-text) refl)
-
   kl-registers : map registerIs (effect x KL vs (recordIn KL vs) name .registers) ≡ set (map registerIs (x .registers)) (register-at .place) (key (groupIn card) (revisionIn card) name (inRow stored))
   unfolding answered cardPlace
   kl-registers =
@@ -243,20 +235,42 @@ module _ (x : Call) (vs : List Value) (y : Yes x KL vs) (n : x .registerCount �
       ∙ map-set registerIs (x .registers) (register-at .place) (filledRegister stored)
       ∙ ap (set (map registerIs (x .registers)) (register-at .place)) is-reading
 
+  -- the step, whatever the reply can say
+  abbrev loading-step : Item
+  loading-step = kl name (groupIn card) (revisionIn card) ⇒ loaded (suc (register-at .place)) (inRow stored)
+
+  steps-kl : Moves x loading-step (effect x KL vs (recordIn KL vs) name)
+  unfolding answered cardPlace
+  steps-kl =
+      let i = register-at .place in
+      let w : eqb (v x KL vs y slot-at .state) 2 ≡ true = rw (row-is x KL vs y slot-at) at (and-first (hasState Loading (slotNamed name (x .slots))) _ (y .state)) in
+      let o : eqb (v x KL vs y slot-at .state) 1 ≡ false = rw (eqb-true (v x KL vs y slot-at .state) 2 w) refl in
+      let e : getD (map slotIs (x .slots)) (slot-at .place) free ≡ used name loading = row-reads x KL vs y slot-at ∙ rw (o, w) refl in
+      rw kl-registers
+      (loads name (groupIn card) (revisionIn card) (inRow stored) (slot-at .place) i e (rw length-map (register-at .within)) (register-at .home))
+
+  -- a reply's register and card
+  abbrev pub reply : List Value
+  reply = number (register-at .place + 1) ∷ string stored ∷ []
+
   pub kl-response : effect x KL vs (recordIn KL vs) name .response ≡ responseBytes (headerOf (x .request)) accepted reply
   unfolding answered cardPlace
   kl-response =
       ap (λ (o : Option ℕ). responseBytes (headerOf (x .request)) accepted (number (placeIn (x .registers) o + 1) ∷ string stored ∷ [])) (register-at .is)
 
-  does-kl : Does x KL vs (effect x KL vs (recordIn KL vs) name)
-  unfolding answered cardPlace
-  does-kl =
-      let i = register-at .place in
-      let w : eqb (v x KL vs y slot-at .state) 2 ≡ true = rw (row-is x KL vs y slot-at) at (and-first (hasState Loading (slotNamed name (x .slots))) _ (y .state)) in
-      let o : eqb (v x KL vs y slot-at .state) 1 ≡ false = rw (eqb-true (v x KL vs y slot-at .state) 2 w) refl in
-      let e : getD (map slotIs (x .slots)) (slot-at .place) free ≡ used name loading = row-reads x KL vs y slot-at ∙ rw (o, w) refl in
-      rw (kl-registers, kl-response, says-yes x KL vs y, reply-reads, add-one)
-      (loads name (groupIn card) (revisionIn card) (inRow stored) (slot-at .place) i e (rw length-map (register-at .within)) (register-at .home))
+  -- read back, where the count is the rows'
+  module _ (n : x .registerCount ≡ length (x .registers)) where
+    pub is-low : register-at .place + 1 ≤ 2147483647
+    unfolding areCounts
+    is-low =
+        let m = leb-true (x .registerCount) 32 (and-second (leb 1 (x .registerCount)) _ (and-second (leb (x .slotCount) 8) _ (and-second (leb 1 (x .slotCount)) _ (y .counts)))) in
+        omega (arith, n, register-at .within)
+
+    reply-reads : fieldsOf (responseBytes (headerOf (x .request)) accepted reply) ≡ reply
+    reply-reads = response-fields (headerOf (x .request)) accepted reply (header-five (x .request) (y .whole)) refl (rw (le-leb (register-at .place + 1) 2147483647 is-low, is-text) refl)
+
+    does-kl : Does x KL vs (effect x KL vs (recordIn KL vs) name)
+    does-kl = rw (kl-response, says-yes x KL vs y, reply-reads, add-one) steps-kl
 
 -- a register that is deleted
 module _ (x : Call) (vs : List Value) (y : Yes x KD vs) where
@@ -274,6 +288,21 @@ module _ (x : Call) (vs : List Value) (y : Yes x KD vs) where
   does-kd : Does x KD vs (effect x KD vs (recordIn KD vs) (slotIn KD vs))
   does-kd = does-kd-of (registerIn vs) refl (y .filled)
 
+-- each command: some item is its step, whatever the counts are;
+moves-effect : (x : Call) (c : Command) (vs : List Value) → Yes x c vs → (ι : Item) × Moves x ι (effect x c vs (recordIn c vs) (slotIn c vs))
+moves-effect x RS vs y = (_, does-rs x vs y)
+moves-effect x KC vs y = (_, does-kc x vs y)
+moves-effect x KR vs y = (_, does-kr x vs y)
+moves-effect x KL vs y = (loading-step x vs y, steps-kl x vs y)
+moves-effect x KF vs y = (_, does-kf x vs y)
+moves-effect x KX vs y = (_, does-kx x vs y)
+moves-effect x KD vs y = (_, does-kd x vs y)
+moves-effect x GA vs y = let z = y .built in nope (cc)
+moves-effect x GL vs y = let z = y .built in nope (cc)
+moves-effect x KQ vs y = let z = y .built in nope (cc)
+moves-effect x Unknown vs y = let z = y .built in nope (cc)
+
+-- the item that is read off the answer is it where the count of registers is the rows'
 does-effect : (x : Call) → x .registerCount ≡ length (x .registers) → (c : Command) (vs : List Value) → Yes x c vs → Does x c vs (effect x c vs (recordIn c vs) (slotIn c vs))
 does-effect x n RS vs y = does-rs x vs y
 does-effect x n KC vs y = does-kc x vs y
@@ -295,3 +324,12 @@ does x n = go (firstNo (questions x)) refl
     go : (o : Option Refusal) → firstNo (questions x) ≡ o → Does x (commandIn (x .request)) (fieldsIn (x .request)) (answerTo x o (commandIn (x .request)) (fieldsIn (x .request)))
     go (some r) e = does-refused x (commandIn (x .request)) (fieldsIn (x .request)) r e
     go none e = does-effect x n (commandIn (x .request)) (fieldsIn (x .request)) (yes-of x e)
+
+-- whatever the counts are, the rows after every answer are those after some step
+pub moves : (x : Call) → (ι : Item) × Moves x ι (answerOf x)
+unfolding answerOf
+moves x = go (firstNo (questions x)) refl
+  where
+    go : (o : Option Refusal) → firstNo (questions x) ≡ o → (ι : Item) × Moves x ι (answerTo x o (commandIn (x .request)) (fieldsIn (x .request)))
+    go (some r) e = (_, does-refused x (commandIn (x .request)) (fieldsIn (x .request)) r e)
+    go none e = moves-effect x (commandIn (x .request)) (fieldsIn (x .request)) (yes-of x e)

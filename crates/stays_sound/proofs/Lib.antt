@@ -1,0 +1,4 @@
+pub mod RowTests
+pub mod SoundWords
+pub mod WrittenRows
+pub mod StaysSound
