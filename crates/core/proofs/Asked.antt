@@ -1,0 +1,72 @@
+-- What every question having been a yes tells of the places, the strings and the room.
+use mathlib.Core.Path.{_≡_, refl, sym, ap, subst, _∙_}
+use mathlib.Core.Bool.{Bool, true, false, cond, not, _&&_}
+use mathlib.Core.List.{List, [], _∷_}
+use mathlib.Core.Option.{Option, none, some}
+use Prim.Native.Nat.{ℕ, _-_, _≤_, _<_}
+use native.Mathlib.Omega.{arith}
+use lib.Dec.{leb}
+use lib.ListN.{length, getD}
+use borrow.Author.Tests.{leb-true}
+use Rattle.octets.proofs.Flags.{nope, and-first, and-second}
+use Rattle.commands.specs.declared.Command.{Command}
+use Rattle.rows.specs.Lists.{firstFrom}
+use Rattle.rows.specs.Slots.{hasState, isNamed, freeSlot}
+use Rattle.rows.specs.Registers.{isVacant, isKeyOf, freeRegister}
+use Rattle.rows.specs.declared.SlotRow.{SlotRow}
+use Rattle.rows.specs.declared.RegisterRow.{RegisterRow}
+use Rattle.rows.specs.declared.SlotState.the-variants.{Free}
+use Rattle.rows.proofs.ListLaws.{found}
+use Rattle.engine.specs.Requests.{commandIn, fieldsIn, recordIn, slotIn}
+use Rattle.engine.specs.Questions.{Call, placeIn, isPlace, placeElse, slotPlace, freePlace, keyPlace, vacantPlace, sessionPlace, storePlace, slotNamed, isFilled, groupIn, revisionIn, questions, questionsOf}
+use Rattle.engine.specs.Answers.{cardPlace}
+use Rattle.engine.specs.Decisions.{decisionOf}
+use Rattle.engine.specs.declared.Decision.{Decision}
+use Rattle.engine.proofs.QuestionLaws.{AllYes}
+use Rattle.engine.proofs.DecisionLaws.{commandFor, isRefuse, carried}
+
+-- every question of a command was a yes
+abbrev pub Asked : Call → Command → Type 0
+Asked c k =
+    AllYes (questionsOf c k (fieldsIn (c .request)) (recordIn k (fieldsIn (c .request))) (slotIn k (fieldsIn (c .request))) (slotNamed (slotIn k (fieldsIn (c .request))) (c .slots)))
+
+all-asked : (c : Call) → AllYes (questions c) → Asked c (commandIn (c .request))
+unfolding questions
+all-asked c y = y
+
+pub asked-of : (c : Call) (d : Decision) → decisionOf c ≡ d → isRefuse d ≡ false → Asked c (commandFor d)
+asked-of c d e n = let k = carried c d e n in subst (Asked c) (k .command) (all-asked c (k .yeses))
+
+-- a place that was found is one of the rows
+pub first-below : {A : Type 0} (f : A → Bool) (d : A) (l : List A) → isPlace (firstFrom f 0 l) ≡ true → placeIn l (firstFrom f 0 l) < length l
+first-below f d l e = go (firstFrom f 0 l) refl e
+  where
+    go : (o : Option ℕ) → firstFrom f 0 l ≡ o → isPlace o ≡ true → placeIn l o < length l
+    go (some k) w p = found f d l k w .0
+    go none w p = nope (cc)
+
+else-below : {A : Type 0} (l : List A) (o p : Option ℕ) → (isPlace o ≡ true → placeIn l o < length l) → (isPlace p ≡ true → placeIn l p < length l) → isPlace (placeElse o p) ≡ true → placeIn l (placeElse o p) < length l
+else-below l (some k) p f g e = f refl
+else-below l none p f g e = g e
+
+pub slot-below : (s : List ℕ) (l : List SlotRow) → isPlace (slotPlace s l) ≡ true → placeIn l (slotPlace s l) < length l
+slot-below s l e = first-below (isNamed s) freeSlot l e
+
+pub session-below : (s : List ℕ) (l : List SlotRow) → isPlace (sessionPlace s l) ≡ true → placeIn l (sessionPlace s l) < length l
+unfolding sessionPlace
+session-below s l e = else-below l (slotPlace s l) (freePlace l) (slot-below s l) (first-below (hasState Free) freeSlot l) e
+
+store-below : (g k : List ℕ) (l : List RegisterRow) → isPlace (storePlace g k l) ≡ true → placeIn l (storePlace g k l) < length l
+unfolding storePlace
+store-below g k l e = else-below l (keyPlace g k l) (vacantPlace l) (first-below (isKeyOf g k) freeRegister l) (first-below isVacant freeRegister l) e
+
+pub card-below : (card : List ℕ) (l : List RegisterRow) → isPlace (storePlace (groupIn card) (revisionIn card) l) ≡ true → cardPlace card l < length l
+unfolding cardPlace
+card-below card l e = store-below (groupIn card) (revisionIn card) l e
+
+pub filled-below : (n : ℕ) (l : List RegisterRow) → isFilled n l ≡ true → n - 1 < length l
+unfolding isFilled
+filled-below n l e =
+    let a = leb-true 1 n (and-first (leb 1 n) _ e) in
+    let b = leb-true n (length l) (and-first (leb n (length l)) _ (and-second (leb 1 n) _ e)) in
+    omega arith

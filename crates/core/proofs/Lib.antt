@@ -1,0 +1,3 @@
+pub mod DoneBy
+pub mod Asked
+pub mod RowsAfter

@@ -1,0 +1,97 @@
+-- The tables after a decision are the answer's rows, and the places beyond them as they were.
+use mathlib.Core.Path.{_≡_, refl, sym, ap, _∙_}
+use mathlib.Core.Bool.{Bool, true, false}
+use mathlib.Core.List.{List, [], _∷_, _++_, map}
+use Prim.Native.Nat.{ℕ, zero, suc, _-_, _≤_, _<_}
+use native.Mathlib.Omega.{arith}
+use lib.ListN.{length, getD, set, take, drop, take-append-drop}
+use lib.Seq.{set-append-left}
+use Rattle.fields.specs.Values.{Value}
+use Rattle.commands.specs.declared.Command.the-variants.{RS, KC, KR, KL, KF, KX, KD}
+use Rattle.rows.specs.Slots.{freeSlot, filledSlot, movedSlot}
+use Rattle.rows.specs.Registers.{freeRegister}
+use Rattle.rows.specs.declared.SlotRow.{SlotRow}
+use Rattle.rows.specs.declared.RegisterRow.{RegisterRow}
+use Rattle.rows.specs.declared.SlotState.{SlotState}
+use Rattle.rows.specs.declared.Supplement.{Supplement}
+use Rattle.rows.specs.declared.Tables.{Tables}
+use Rattle.engine.specs.Requests.{fieldsIn, registerIn, recordIn, slotIn, cardIn, firstText}
+use Rattle.engine.specs.Questions.{Call, placeIn, isPlace, slotPlace, sessionPlace, slotNamed}
+use Rattle.engine.specs.Answers.{Answer, slotsMoved, slotsOpened, slotsWithout, cardPlace, refused, answered, effect, answerOf}
+use Rattle.engine.specs.Calls.{callIn, tablesAfter}
+use Rattle.engine.specs.Decisions.{decisionOf}
+use Rattle.engine.specs.declared.Decision.{Decision}
+use Rattle.engine.specs.declared.Decision.the-variants.{Refuse, Reset, Pend, Open, Load, Finish, Delete, Clear}
+use Rattle.engine.proofs.DecisionLaws.{commandFor, told}
+use Rattle.changes.specs.Changes.{slotsAfter, registersAfter, tablesFor}
+use Rattle.core.proofs.DoneBy.{effect-of, load-place, pend-place, open-place, finish-place, delete-place, clear-place}
+use Rattle.core.proofs.Asked.{asked-of, slot-below, session-below, card-below, filled-below}
+
+-- one of the first n rows is set
+set-front : {A : Type 0} (n : ℕ) (l : List A) (k : ℕ) (v : A) → k < length (take n l) → set l k v ≡ set (take n l) k v ++ drop n l
+set-front {A} n l k v h = ap (λ (z : List A). set z k v) (sym (take-append-drop n l)) ∙ set-append-left (take n l) (drop n l) k v h
+
+getD-front : {A : Type 0} (n : ℕ) (l : List A) (k : ℕ) (d : A) → k < length (take n l) → getD l k d ≡ getD (take n l) k d
+getD-front zero l k d h = absurd (omega arith)
+getD-front (suc n) [] k d h = refl
+getD-front (suc n) (x ∷ xs) zero d h = refl
+getD-front (suc n) (x ∷ xs) (suc k) d h = getD-front n xs k d (omega arith)
+
+module _ (t : Tables) (x : Supplement) (q : List ℕ) (room : ℕ) where
+  abbrev c : Call
+  c = callIn t x q room
+
+  abbrev n : ℕ
+  n = t .«slot_count»
+
+  abbrev m : ℕ
+  m = t .«register_count»
+
+  abbrev vs : List Value
+  vs = fieldsIn q
+
+  -- the answer of a decision that carries its command out
+  abbrev done : Decision → Answer
+  done d = effect c (commandFor d) vs (recordIn (commandFor d) vs) (slotIn (commandFor d) vs)
+
+  -- tables whose rows are these
+  same-tables : (a : Answer) (d : Decision) → slotsAfter d n (t .slots) x vs ≡ a .slots ++ drop n (t .slots) → registersAfter d m (t .registers) x vs ≡ a .registers ++ drop m (t .registers) → tablesFor d t x vs ≡ tablesAfter t a
+  same-tables a d p r = λ j. record { slots = p j; registers = r j; «slot_count» = n; «register_count» = m }
+
+  slots-kept : t .slots ≡ take n (t .slots) ++ drop n (t .slots)
+  slots-kept = sym (take-append-drop n (t .slots))
+
+  registers-kept : t .registers ≡ take m (t .registers) ++ drop m (t .registers)
+  registers-kept = sym (take-append-drop m (t .registers))
+
+  -- a slot that is moved to another state
+  moved : (a : SlotState) (s : List ℕ) (k : ℕ) → placeIn (c .slots) (slotPlace s (c .slots)) ≡ k → isPlace (slotPlace s (c .slots)) ≡ true → set (t .slots) k (movedSlot a (getD (t .slots) k freeSlot)) ≡ slotsMoved a s (c .slots) ++ drop n (t .slots)
+  unfolding slotNamed
+  moved a s k w e =
+      let h : k < length (take n (t .slots)) = rw (← w) (slot-below s (c .slots) e) in
+      rw (getD-front n (t .slots) k freeSlot h, w) (set-front n (t .slots) k (movedSlot a (getD (take n (t .slots)) k freeSlot)) h)
+
+  pub tables-are : (d : Decision) → decisionOf c ≡ d → tablesFor d t x vs ≡ tablesAfter t (answerOf c)
+  unfolding refused answered recordIn slotIn slotsOpened slotsWithout
+  tables-are (Refuse r) e = rw (told c r e) (same-tables (refused c r) (Refuse r) slots-kept registers-kept)
+  tables-are Reset e = same-tables (done Reset) Reset refl registers-kept ∙ ap (tablesAfter t) (effect-of c Reset e refl)
+  tables-are (Pend k) e =
+      let w = pend-place c k e in
+      let h : k < length (take n (t .slots)) = rw (← w) (session-below (slotIn KC vs) (c .slots) (asked-of c (Pend k) e refl .1 .1 .1 .1 .1 .1 .1 .1 .1 .1 .1 .1 .0)) in
+      same-tables (done (Pend k)) (Pend k) (rw w (set-front n (t .slots) k _ h)) registers-kept ∙ ap (tablesAfter t) (effect-of c (Pend k) e refl)
+  tables-are (Open k) e =
+      same-tables (done (Open k)) (Open k) (moved _ (slotIn KR vs) k (open-place c k e) (asked-of c (Open k) e refl .1 .1 .1 .1 .1 .1 .1 .1 .1 .1 .1 .0)) registers-kept ∙ ap (tablesAfter t) (effect-of c (Open k) e refl)
+  tables-are (Load k) e =
+      let w = load-place c k e in
+      let h : k < length (take m (t .registers)) = rw (← w) (card-below _ (c .registers) (asked-of c (Load k) e refl .1 .1 .1 .1 .1 .1 .1 .1 .1 .1 .1 .1 .1 .1 .1 .1 .1 .1 .1 .0)) in
+      same-tables (done (Load k)) (Load k) slots-kept (rw w (set-front m (t .registers) k _ h)) ∙ ap (tablesAfter t) (effect-of c (Load k) e refl)
+  tables-are (Finish k) e =
+      same-tables (done (Finish k)) (Finish k) (moved _ (slotIn KF vs) k (finish-place c k e) (asked-of c (Finish k) e refl .1 .1 .1 .1 .1 .1 .1 .1 .1 .1 .1 .0)) registers-kept ∙ ap (tablesAfter t) (effect-of c (Finish k) e refl)
+  tables-are (Delete k) e =
+      let w = delete-place c k e in
+      let h : k < length (take n (t .slots)) = rw (← w) (slot-below (slotIn KX vs) (c .slots) (asked-of c (Delete k) e refl .1 .1 .1 .1 .1 .1 .1 .1 .1 .1 .1 .0)) in
+      same-tables (done (Delete k)) (Delete k) (rw w (set-front n (t .slots) k freeSlot h)) refl ∙ ap (tablesAfter t) (effect-of c (Delete k) e refl)
+  tables-are (Clear k) e =
+      let w = clear-place c k e in
+      let h : k < length (take m (t .registers)) = rw (← w) (filled-below (registerIn vs) (c .registers) (asked-of c (Clear k) e refl .1 .1 .1 .1 .1 .1 .1 .1 .1 .1 .1 .1 .1 .1 .1 .1 .1 .1 .1 .1 .0)) in
+      same-tables (done (Clear k)) (Clear k) slots-kept (rw w (set-front m (t .registers) k freeRegister h)) ∙ ap (tablesAfter t) (effect-of c (Clear k) e refl)
