@@ -1,5 +1,5 @@
 -- What every answer keeps to: eighteen yeses are acceptance, a refusal changes no row, SM?KR no register, and status 28 needs full registers.
-use mathlib.Core.Path.{_≡_, refl, sym, ap, _∙_}
+use mathlib.Core.Path.{_≡_, refl}
 use mathlib.Core.Logic.{_⊎_, inl, inr, _↔_}
 use mathlib.Core.Bool.{Bool, true, false, cond, _&&_, _||_}
 use mathlib.Core.List.{List, [], _∷_}
@@ -12,7 +12,6 @@ use Rattle.commands.specs.declared.Command.{Command}
 use Rattle.commands.specs.declared.Command.the-variants.{RS, KC, KR, KL, KF, KX, KD, GA, GL, KQ, Unknown}
 use Rattle.rows.specs.Lists.{someRow, firstFrom}
 use Rattle.rows.specs.Registers.{isVacant, isKeyOf}
-use Rattle.rows.specs.declared.RegisterRow.{RegisterRow}
 use Rattle.engine.specs.Refusals.{refusal}
 use Rattle.engine.specs.Requests.{isAmong, commandIn, fieldsIn, recordIn, slotIn, cardIn}
 use Rattle.engine.specs.Questions.{Call, Question, _otherwise_, asked, isPlace, placeElse, keyPlace, vacantPlace, storePlace, groupIn, revisionIn, questions, firstNo}

@@ -1,5 +1,6 @@
 pub mod RowWords
 pub mod QuestionLaws
+pub mod RefusalLaws
 pub mod AnswerWords
 pub mod Places
 pub mod Steps

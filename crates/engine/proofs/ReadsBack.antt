@@ -1,15 +1,15 @@
 -- Every response that the engine writes reads back as its own header, status and fields (demand 2).
-use mathlib.Core.Path.{_≡_, refl, sym, ap, subst, _∙_}
+use mathlib.Core.Path.{_≡_, refl}
 use mathlib.Core.Logic.{_⊎_, inl, inr}
-use mathlib.Core.Bool.{Bool, true, false, cond, not, _&&_, _||_}
-use mathlib.Core.List.{List, [], _∷_, _++_}
+use mathlib.Core.Bool.{Bool, true, false, cond, _&&_}
+use mathlib.Core.List.{List, [], _∷_}
 use mathlib.Core.Option.{Option, none, some}
 use Prim.Native.Nat.{ℕ, _+_}
 use lib.Dec.{eqb, leb}
 use lib.ListN.{length}
 use borrow.Author.Tests.{le-leb, eqb-true}
-use Rattle.octets.specs.Strings.{sameBytes, allOf}
-use Rattle.octets.proofs.Flags.{nope, and-first, and-second, and-both}
+use Rattle.octets.specs.Strings.{sameBytes}
+use Rattle.octets.proofs.Flags.{nope, and-first, and-second}
 use Rattle.octets.proofs.StringLaws.{same-equal}
 use Rattle.text.specs.Classes.{areAll}
 use Rattle.text.specs.Identifiers.{isIdentifier}
@@ -17,7 +17,7 @@ use Rattle.text.specs.declared.Class.the-variants.{Text, Printable}
 use Rattle.timestamp.specs.Timestamps.{isTimestamp}
 use Rattle.forms.specs.declared.Form.the-variants.{Name}
 use Rattle.forms.proofs.FormBounds.{in-form-text}
-use Rattle.fields.specs.Values.{Value, number, string, areValues}
+use Rattle.fields.specs.Values.{Value, string, areValues}
 use Rattle.identities.specs.Identities.{nameIn}
 use Rattle.key_records.specs.KeyRecords.{publicKeyInForm}
 use Rattle.frames.specs.Frames.{headerOf, answered as asAnswered}
@@ -28,13 +28,12 @@ use Rattle.commands.specs.declared.Header.{Header as Named}
 use Rattle.commands.specs.declared.Command.{Command}
 use Rattle.commands.specs.declared.Command.the-variants.{RS, KC, KR, KL, KF, KX, KD, GA, GL, KQ, Unknown}
 use Rattle.rows.specs.Supplements.{loadRequest, isIdentityRight, isLoadRequestRight, isWellFormed}
-use Rattle.engine.specs.Refusals.{Header, silent, general, own, Told, refusal}
+use Rattle.engine.specs.Refusals.{Told, refusal}
 use Rattle.engine.specs.Requests.{commandIn, fieldsIn, isBuilt, recordIn, slotIn, firstText, kmcIdentityIn}
-use Rattle.engine.specs.Questions.{Call, Question, tableQuestions, messageQuestions, questions, firstNo}
-use Rattle.engine.specs.Answers.{Answer, accepted, errorHeader, refusalBytes, answered, effect, refused, answerTo, answerOf}
+use Rattle.engine.specs.Questions.{Call, questions, firstNo}
+use Rattle.engine.specs.Answers.{accepted, errorHeader, answered, effect, refused, answerTo, answerOf}
 use Rattle.engine.specs.declared.Refusal.{Refusal}
-use Rattle.engine.proofs.QuestionLaws.{all-yes, no-append, no-listed}
-use Rattle.engine.proofs.AnswerWords.{header-five, later}
+use Rattle.engine.proofs.RefusalLaws.{Under, under-error, under-own, Written, bytes, refusal-written}
 use Rattle.engine.proofs.Places.{known-at}
 use Rattle.engine.proofs.Steps.{Yes, yes-of, row-identifier, identity-name, key-identity, register-at, is-text, is-low, reply, kl-response}
 
@@ -83,55 +82,23 @@ error-header = refl
 abbrev isWritable : Told → Bool
 isWritable t = eqb (length (t .status)) 2 && (areAll Printable (t .status) && areValues (t .text))
 
-abbrev isSilent : Header → Bool
-isSilent silent = true
-isSilent general = false
-isSilent own = false
-
-abbrev isOwn : Header → Bool
-isOwn silent = false
-isOwn general = false
-isOwn own = true
-
 told : (h : List ℕ) (t : Told) → isHeader h ≡ true → isWritable t ≡ true → Back (responseBytes h (t .status) (t .text))
 told h t e w =
     let r = and-second (eqb (length (t .status)) 2) (areAll Printable (t .status) && areValues (t .text)) w in
     back h (t .status) (t .text) e (eqb-true (length (t .status)) 2 (and-first (eqb (length (t .status)) 2) _ w)) (and-first (areAll Printable (t .status)) (areValues (t .text)) r) (and-second (areAll Printable (t .status)) (areValues (t .text)) r)
 
-quiet-back : (q : List ℕ) (t : Told) (h : Header) → isSilent h ≡ true → refusalBytes q h t ≡ []
-quiet-back q t silent e = refl
-quiet-back q t general e = nope (cc)
-quiet-back q t own e = nope (cc)
-
-general-back : (q : List ℕ) (t : Told) (h : Header) → not (isOwn h) ≡ true → isWritable t ≡ true → (refusalBytes q h t ≡ []) ⊎ Back (refusalBytes q h t)
-general-back q t silent e w = inl refl
-general-back q t general e w = inr (told errorHeader t error-header w)
-general-back q t own e w = nope (cc)
-
-own-back : (q : List ℕ) (t : Told) (h : Header) → isHeader (headerOf q) ≡ true → isWritable t ≡ true → (refusalBytes q h t ≡ []) ⊎ Back (refusalBytes q h t)
-own-back q t silent e w = inl refl
-own-back q t general e w = inr (told errorHeader t error-header w)
-own-back q t own e w = inr (told (headerOf q) t e w)
+told-header : (q h : List ℕ) → Under q h → isHeader h ≡ true
+told-header q h under-error = error-header
+told-header q h (under-own y) = built-header q (y .1 .1 .0)
 
 module _ (x : Call) (r : Refusal) where
-  abbrev bytes : List ℕ
-  bytes = refusalBytes (x .request) (refusal r .header) (refusal r)
-
-  refusal-back : firstNo (questions x) ≡ some r → (bytes ≡ []) ⊎ Back bytes
-  unfolding questions areAll
-  refusal-back e = first (no-append (tableQuestions x) (messageQuestions (x .request) ++ later x r) r e)
+  refusal-back : firstNo (questions x) ≡ some r → (bytes x r ≡ []) ⊎ Back (bytes x r)
+  unfolding areAll
+  refusal-back e = go (refusal-written x r (λ (z : Refusal). isWritable (refusal z)) refl refl e)
     where
-      next : (firstNo (messageQuestions (x .request)) ≡ some r) ⊎ ((firstNo (messageQuestions (x .request)) ≡ none) × (firstNo (later x r) ≡ some r)) → (bytes ≡ []) ⊎ Back bytes
-      next (inl w) =
-          let k = no-listed (λ (z : Refusal). not (isOwn (refusal z .header)) && isWritable (refusal z)) (messageQuestions (x .request)) r refl w in
-          general-back (x .request) (refusal r) (refusal r .header) (and-first (not (isOwn (refusal r .header))) (isWritable (refusal r)) k) (and-second (not (isOwn (refusal r .header))) (isWritable (refusal r)) k)
-      next (inr w) =
-          let b = all-yes (messageQuestions (x .request)) (w .0) .1 .1 .0 in
-          own-back (x .request) (refusal r) (refusal r .header) (built-header (x .request) b) (no-listed (λ (z : Refusal). isWritable (refusal z)) (later x r) r refl (w .1))
-
-      first : (firstNo (tableQuestions x) ≡ some r) ⊎ ((firstNo (tableQuestions x) ≡ none) × (firstNo (messageQuestions (x .request) ++ later x r) ≡ some r)) → (bytes ≡ []) ⊎ Back bytes
-      first (inl w) = inl (quiet-back (x .request) (refusal r) (refusal r .header) (no-listed (λ (z : Refusal). isSilent (refusal z .header)) (tableQuestions x) r refl w))
-      first (inr w) = next (no-append (messageQuestions (x .request)) (later x r) r (w .1))
+      go : (bytes x r ≡ []) ⊎ (Written (x .request) (refusal r) (bytes x r) × (isWritable (refusal r) ≡ true)) → (bytes x r ≡ []) ⊎ Back (bytes x r)
+      go (inl n) = inl n
+      go (inr w) = inr (rw (w .0 .is) (told (w .0 .header) (refusal r) (told-header (x .request) (w .0 .header) (w .0 .under)) (w .1)))
 
 -- an accepted answer
 yes-back : (x : Call) (c : Command) (vs : List Value) → Yes x c vs → commandIn (x .request) ≡ c → (fields : List Value) → areValues fields ≡ true → Back (responseBytes (headerOf (x .request)) accepted fields)

@@ -1,9 +1,9 @@
 -- Each answer of the engine is one of the steps of which demand 3 is proved.
-use mathlib.Core.Path.{_≡_, refl, sym, ap, _∙_}
-use mathlib.Core.Bool.{Bool, true, false, cond, not, _&&_, _||_}
-use mathlib.Core.List.{List, [], _∷_, _++_, map}
+use mathlib.Core.Path.{_≡_, refl, ap, _∙_}
+use mathlib.Core.Bool.{true, false, not, _&&_, _||_}
+use mathlib.Core.List.{List, [], _∷_, map}
 use mathlib.Core.Option.{Option, none, some}
-use Prim.Native.Nat.{ℕ, zero, suc, _+_, _-_, _≤_, _<_}
+use Prim.Native.Nat.{ℕ, zero, suc, _+_, _-_, _≤_}
 use native.Mathlib.Omega.{arith}
 use native.Mathlib.Numerals.{add-one}
 use lib.Dec.{eqb, leb}
@@ -15,7 +15,7 @@ use Rattle.timestamp.specs.Timestamps.{isTimestamp}
 use Rattle.text.specs.Identifiers.{isIdentifier}
 use Rattle.text.specs.declared.Class.the-variants.{Text}
 use Rattle.decimals.specs.Decimals.{isNumber, isUnpadded}
-use Rattle.fields.specs.Values.{Value, number, string, isValue, areValues}
+use Rattle.fields.specs.Values.{Value, number, string}
 use Rattle.forms.specs.Forms.{inForm}
 use Rattle.forms.specs.declared.Form.the-variants.{Hex, HexSome}
 use Rattle.frames.specs.Frames.{isWhole, headerOf}
@@ -31,19 +31,19 @@ use Rattle.commands.specs.declared.Command.{Command}
 use Rattle.commands.specs.declared.Command.the-variants.{RS, KC, KR, KL, KF, KX, KD, GA, GL, KQ, Unknown}
 use Rattle.attributes.specs.Table.{SGC, KRN, KSL}
 use Rattle.rows.specs.Lists.{everyRow}
-use Rattle.rows.specs.Slots.{stateNumber, hasState, isNamed, isSlotSound, freeSlot, filledSlot, movedSlot, resetSlot}
+use Rattle.rows.specs.Slots.{stateNumber, hasState, isSlotSound, freeSlot, filledSlot, movedSlot, resetSlot}
 use Rattle.rows.specs.Registers.{isVacant, attributeOf, freeRegister, filledRegister, withoutSlot}
 use Rattle.rows.specs.Sound.{areSound}
-use Rattle.rows.specs.Supplements.{isWellFormed, isIdentityRight, isLoadRequestRight, loadRequest}
+use Rattle.rows.specs.Supplements.{isWellFormed, isIdentityRight, isLoadRequestRight}
 use Rattle.rows.specs.declared.SlotRow.{SlotRow}
 use Rattle.rows.specs.declared.RegisterRow.{RegisterRow}
 use Rattle.rows.specs.declared.SlotState.{SlotState}
-use Rattle.rows.specs.declared.SlotState.the-variants.{Free, Pending, Loading, Idle}
+use Rattle.rows.specs.declared.SlotState.the-variants.{Pending, Loading, Idle}
 use Rattle.rows.proofs.ListLaws.{map-set, map-sweep, every-true}
 use Rattle.history.specs.Model.{State, pending, loading, idle, used, free, vacant, key, kl, loaded, Item, _⇒_, dropKey, dropSlot, stopped, reset}
 use Rattle.history.specs.Step.{Step, refuses, starts, responds, loads, finishes, deletes, clears, resets}
-use Rattle.engine.specs.Requests.{commandIn, fieldsIn, isBuilt, registerIn, recordIn, kmcIdentityIn, slotIn, cardIn, firstText, secondText}
-use Rattle.engine.specs.Questions.{Call, asked, areCounts, isPlace, slotPlace, sessionPlace, storePlace, slotNamed, placeIn, isFilled, groupIn, revisionIn, questions, questionsOf, firstNo}
+use Rattle.engine.specs.Requests.{commandIn, fieldsIn, isBuilt, registerIn, recordIn, kmcIdentityIn, slotIn, cardIn, firstText}
+use Rattle.engine.specs.Questions.{Call, asked, areCounts, isPlace, slotPlace, sessionPlace, storePlace, slotNamed, placeIn, isFilled, groupIn, revisionIn, questions, firstNo}
 use Rattle.engine.specs.Answers.{Answer, accepted, slotsMoved, slotsOpened, slotsWithout, loadedCard, cardPlace, answered, effect, answerTo, answerOf}
 use Rattle.engine.specs.Answers as answers
 use Rattle.engine.specs.Words.{stateIn, slotIs, registerIs, tablesOf, requestOf, itemFor, isAccepted}
@@ -51,7 +51,7 @@ use Rattle.engine.specs.declared.Refusal.{Refusal}
 use Rattle.engine.proofs.RowWords.{free-reads, slot-row, named-state, named-name, named-reads, sound-name, moved-reads, reset-reads, filled-reads, free-register-reads, filled-key, register-row, without-reads, loaded-reads}
 use Rattle.engine.proofs.QuestionLaws.{AllYes, all-yes}
 use Rattle.engine.proofs.AnswerWords.{header-five, accepted-said, refusal-said}
-use Rattle.engine.proofs.Places.{KnownAt, known-at, sound-at, SpotAt, spot-at, HomeAt, home-at}
+use Rattle.engine.proofs.Places.{KnownAt, known-at, sound-at, spot-at, HomeAt, home-at}
 
 -- the rows after an answer are those after a step of the item
 abbrev pub Moves : Call → Item → Answer → Type 0
@@ -270,7 +270,7 @@ module _ (x : Call) (vs : List Value) (y : Yes x KL vs) where
     reply-reads = response-fields (headerOf (x .request)) accepted reply (header-five (x .request) (y .whole)) refl (rw (le-leb (register-at .place + 1) 2147483647 is-low, is-text) refl)
 
     does-kl : Does x KL vs (effect x KL vs (recordIn KL vs) name)
-    does-kl = rw (kl-response, says-yes x KL vs y, reply-reads, add-one) steps-kl
+    does-kl = rw (kl-response, says-yes x KL vs y, reply-reads, add-one (register-at .place)) steps-kl
 
 -- a register that is deleted
 module _ (x : Call) (vs : List Value) (y : Yes x KD vs) where

@@ -9,7 +9,7 @@ use Rattle.history.proofs.Latch.{since-last, since-none}
 use Rattle.history.proofs.Laws.{Clears}
 use Rattle.history.proofs.Theorem.{live-since}
 use Rattle.history.specs.History.{Since}
-use Rattle.history.specs.Model.{Tables, kc, kr, kl, kf, kx, kd, rs, done, loaded, Item, _⇒_, key, vacant, Register, free, used, idle, empty, registerRow}
+use Rattle.history.specs.Model.{Tables, kc, kr, kl, kf, kx, kd, rs, done, loaded, Item, _⇒_, key, vacant, Register, used, loading, idle, empty, registerRow}
 use Rattle.history.specs.Demand3.{LoadInto, Load, Deletion, Opens, Ends, closed, restarted, deleted, was-reset, InSession, StandsIn, Demand3, Live, HasLive}
 
 -- a supply group g and a revision r, loaded into register n under slot s; c is what its row is to be
@@ -89,9 +89,12 @@ module _ (s g r c : List ℕ) where
   pub other-card : (b : List ℕ) → b ≢ c → Demand3 (opened ∷ first-load ∷ []) (record { slots = used s idle ∷ []; registers = key g r s b ∷ [] }) → ⊥
   other-card b n d = let p = d .there g r 1 s c loaded-once in n (cc)
 
-  -- one key in two registers
-  pub two-registers : Demand3 (opened ∷ first-load ∷ []) (record { slots = used s idle ∷ []; registers = key g r s c ∷ key g r s c ∷ [] }) → ⊥
-  two-registers d = let p = d .only g r 1 2 s c s c loaded-once refl .0 in omega arith
+  -- a reload that takes a second register: the key then stands in both
+  pub two-registers : (b : List ℕ) → Demand3 (opened ∷ first-load ∷ load s g r b 2 ∷ []) (record { slots = used s loading ∷ []; registers = key g r s c ∷ key g r s b ∷ [] }) → ⊥
+  two-registers b d = let p = d .only g r 2 1 s b s c reloaded refl .0 in omega arith
+    where
+      reloaded : Live (opened ∷ first-load ∷ load s g r b 2 ∷ []) g r 2 s b
+      reloaded = record { before = opened ∷ first-load ∷ []; load = load s g r b 2; after = []; split = refl; is = refl; last = tt; kept = tt }
 
   -- a slot in two rows, with a key under it or without
   pub two-rows : (h : List Item) (k : List Register) → Demand3 h (record { slots = used s idle ∷ used s idle ∷ []; registers = k }) → ⊥

@@ -1,39 +1,16 @@
 -- The rows are sound, and every step keeps them so.
 use mathlib.Core.Path.{_≡_, refl, sym, ap, subst, _∙_}
-use mathlib.Core.Logic.{_⊎_, inl, inr, _≢_}
-use mathlib.Core.Bool.{Bool, true, false, cond}
-use mathlib.Core.List.{List, [], _∷_, map}
-use Prim.Native.Nat.{ℕ, zero, suc, _<_, _≤_}
-use native.Mathlib.Omega.{arith}
+use mathlib.Core.Logic.{_≢_}
+use mathlib.Core.Bool.{Bool, true, false}
+use mathlib.Core.List.{List, map}
+use Prim.Native.Nat.{ℕ, _<_}
 use lib.ListN.{getD, set, length, List·getD-map}
 use Rattle.octets.proofs.Flags.{nope}
 use Rattle.octets.specs.Strings.{sameBytes}
 use Rattle.octets.proofs.StringLaws.{same-equal, same-self}
 use Rattle.history.proofs.Rows.{clash, within, Stored, new, old, stored, getD-none}
 use Rattle.history.specs.Step.{Spot, own, fresh, Home, held, spare, Step, refuses, reads, starts, responds, loads, finishes, deletes, clears, resets}
-use Rattle.history.specs.Model.{
-  State,
-  pending,
-  loading,
-  idle,
-  Slot,
-  free,
-  used,
-  Register,
-  vacant,
-  key,
-  Tables,
-  Request,
-  Item,
-  slotRow,
-  putSlot,
-  putRegister,
-  dropKey,
-  dropSlot,
-  stopped,
-  reset,
-  empty,
-}
+use Rattle.history.specs.Model.{State, idle, Slot, free, used, Register, vacant, key, Tables, Item, slotRow, putSlot, putRegister, dropKey, dropSlot, stopped, reset, empty}
 
 -- no two rows have one name
 abbrev pub Names : List Slot → Type 0
@@ -48,6 +25,9 @@ pub record Known (l : List Slot) (s : List ℕ) : Type 0 where
   pub row : ℕ
   pub state : State
   pub is : getD l row free ≡ used s state
+
+known-of : (l : List Slot) (i : ℕ) (s : List ℕ) (a : State) → getD l i free ≡ used s a → Known l s
+known-of l i s a e = record { row = i; state = a; is = e }
 
 pub record Sound (t : Tables) : Type 0 where
   pub names : Names (t .slots)
@@ -101,24 +81,30 @@ known-put t s i v h p u k = go (stored free (t .slots) i (used s v) (k .row) h) 
     go (new x q) (fresh e f) = record { row = k .row; state = v; is = cc }
     go (old x q) p = record { row = k .row; state = k .state; is = cc }
 
--- the deletion of slot s leaves just the keys of other slots
+-- the deletion of slot s takes the keys under s, and leaves those of other slots as they are
+drop-taken : (s g r u c : List ℕ) → sameBytes u s ≡ true → dropKey s (key g r u c) ≡ vacant
+unfolding dropKey
+drop-taken s g r u c q = rw q refl
+
+drop-left : (s g r u c : List ℕ) → sameBytes u s ≡ false → dropKey s (key g r u c) ≡ key g r u c
+unfolding dropKey
+drop-left s g r u c q = rw q refl
+
 pub drop-key : (s : List ℕ) (v : Register) (g r : List ℕ) (u c : List ℕ) → dropKey s v ≡ key g r u c → (v ≡ key g r u c) × (sameBytes u s ≡ false)
 unfolding dropKey
 drop-key s vacant g r u c e = nope (cc)
-drop-key s (key g′ r′ u′ c′) g r u c e = go (sameBytes u′ s) refl e
+drop-key s (key g′ r′ u′ c′) g r u c e = go (sameBytes u′ s) refl
   where
-    go : (b : Bool) → sameBytes u′ s ≡ b → cond b vacant (key g′ r′ u′ c′) ≡ key g r u c → (key g′ r′ u′ c′ ≡ key g r u c) × (sameBytes u s ≡ false)
-    go true q e = nope (cc)
-    go false q e = let z : u′ ≡ u = cc in (e, cc)
+    go : (b : Bool) → sameBytes u′ s ≡ b → (key g′ r′ u′ c′ ≡ key g r u c) × (sameBytes u s ≡ false)
+    go true q = let w = drop-taken s g′ r′ u′ c′ q in nope (cc)
+    go false q = let w = drop-left s g′ r′ u′ c′ q in let z : u′ ≡ u = cc in (cc, cc)
 
--- and those it leaves as they are
 pub drop-kept : (s : List ℕ) (g r : List ℕ) (u c : List ℕ) → (s ≢ u) → dropKey s (key g r u c) ≡ key g r u c
-unfolding dropKey
 drop-kept s g r u c n = go (sameBytes u s) refl
   where
-    go : (b : Bool) → sameBytes u s ≡ b → cond b vacant (key g r u c) ≡ key g r u c
+    go : (b : Bool) → sameBytes u s ≡ b → dropKey s (key g r u c) ≡ key g r u c
     go true q = absurd (n (sym (same-equal u s q)))
-    go false q = refl
+    go false q = drop-left s g r u c q
 
 pub drop-row : (s : List ℕ) (l : List Register) (i : ℕ) → getD (map (dropKey s) l) i vacant ≡ dropKey s (getD l i vacant)
 unfolding dropKey
@@ -137,23 +123,6 @@ stop-known : (l : List Slot) (u : List ℕ) → Known l u → Known (map stopped
 unfolding stopped
 stop-known l u k = record { row = k .row; state = idle; is = stop-row l (k .row) ∙ ap stopped (k .is) }
 
-keys-put : (t : Tables) → Keys (t .registers) → (g r : List ℕ) (i : ℕ) (s c : List ℕ) → i < length (t .registers) → Home t g r i → Keys (set (t .registers) i (key g r s c))
-keys-put t n g r i s c h p j k g′ r′ u d u′ d′ e f = go (stored vacant (t .registers) i (key g r s c) j h) (stored vacant (t .registers) i (key g r s c) k h)
-  where
-    go : Stored vacant (t .registers) i (key g r s c) j → Stored vacant (t .registers) i (key g r s c) k → j ≡ k
-    go (new x q) (new y w) = cc
-    go (new x q) (old y w) = let m = home-row t n g r i p k u′ d′ (cc) in cc
-    go (old x q) (new y w) = let m = home-row t n g r i p j u d (cc) in cc
-    go (old x q) (old y w) = n j k g′ r′ u d u′ d′ (cc) (cc)
-
-keys-vacant : (l : List Register) → Keys l → (i : ℕ) → i < length l → Keys (set l i vacant)
-keys-vacant l n i h j k g r u d u′ d′ e f = go (stored vacant l i vacant j h) (stored vacant l i vacant k h)
-  where
-    go : Stored vacant l i vacant j → Stored vacant l i vacant k → j ≡ k
-    go (new x q) y = cc
-    go (old x q) (new y w) = cc
-    go (old x q) (old y w) = n j k g r u d u′ d′ (cc) (cc)
-
 keys-drop : (s : List ℕ) (l : List Register) → Keys l → Keys (map (dropKey s) l)
 keys-drop s l n i j g r u c u′ c′ e f =
     n i j g r u c u′ c′ (drop-key s _ g r u c (rw drop-row at e) .0) (drop-key s _ g r u′ c′ (rw drop-row at f) .0)
@@ -165,22 +134,38 @@ sound-put t σ s i v h p = record {
   known = λ j g r u c e. known-put t s i v h p u (σ .known j g r u c e);
 }
 
+-- what may be stored in register row i: no key, or one whose slot is known and that no other row holds
+abbrev Fits : Tables → ℕ → Register → Type 0
+Fits t i v = (g r u c : List ℕ) → v ≡ key g r u c → Known (t .slots) u × ((j : ℕ) (u′ c′ : List ℕ) → getD (t .registers) j vacant ≡ key g r u′ c′ → j ≡ i)
+
+sound-store : (t : Tables) → Sound t → (i : ℕ) (v : Register) → i < length (t .registers) → Fits t i v → Sound (putRegister t i v)
+sound-store t σ i v h fits = record {
+  names = σ .names;
+  keys = λ j k g r u c u′ c′ e f. one j k g r u c u′ c′ e f (stored vacant (t .registers) i v j h) (stored vacant (t .registers) i v k h);
+  known = λ j g r u c e. under j g r u c e (stored vacant (t .registers) i v j h);
+}
+  where
+    one : (j k : ℕ) (g r u c u′ c′ : List ℕ) → getD (set (t .registers) i v) j vacant ≡ key g r u c → getD (set (t .registers) i v) k vacant ≡ key g r u′ c′ → Stored vacant (t .registers) i v j → Stored vacant (t .registers) i v k → j ≡ k
+    one j k g r u c u′ c′ e f (new x q) (new y w) = cc
+    one j k g r u c u′ c′ e f (new x q) (old y w) = let m = fits g r u c (cc) .1 k u′ c′ (cc) in cc
+    one j k g r u c u′ c′ e f (old x q) (new y w) = let m = fits g r u′ c′ (cc) .1 j u c (cc) in cc
+    one j k g r u c u′ c′ e f (old x q) (old y w) = σ .keys j k g r u c u′ c′ (cc) (cc)
+
+    under : (j : ℕ) (g r u c : List ℕ) → getD (set (t .registers) i v) j vacant ≡ key g r u c → Stored vacant (t .registers) i v j → Known (t .slots) u
+    under j g r u c e (new x q) = fits g r u c (cc) .0
+    under j g r u c e (old x q) = σ .known j g r u c (cc)
+
 pub sound-step : (t : Tables) (ι : Item) (t′ : Tables) → Step t ι t′ → Sound t → Sound t′
 unfolding dropSlot reset
 sound-step t ι t′ (refuses e′) σ = σ
 sound-step t ι t′ reads σ = σ
-sound-step t ι t′ (starts s i h p) σ = sound-put t σ s i pending h p
-sound-step t ι t′ (responds s i q) σ = sound-put t σ s i loading (used-within (t .slots) i s _ q) (own _ q)
-sound-step t ι t′ (loads s g r c k i f h p) σ = record {
-  names = σ .names;
-  keys = keys-put t (σ .keys) g r i s c h p;
-  known = λ j g′ r′ u d w. go j g′ r′ u d w (stored vacant (t .registers) i (key g r s c) j h);
-}
+sound-step t ι t′ (starts s i h p) σ = sound-put t σ s i _ h p
+sound-step t ι t′ (responds s i q) σ = sound-put t σ s i _ (used-within (t .slots) i s _ q) (own _ q)
+sound-step t ι t′ (loads s g r c k i f h p) σ = sound-store t σ i _ h (λ g′ r′ u d e. (under u (cc), λ j u′ d′ w. home-row t (σ .keys) g r i p j u′ d′ (cc)))
   where
-    go : (j : ℕ) (g′ r′ : List ℕ) (u d : List ℕ) → getD (set (t .registers) i (key g r s c)) j vacant ≡ key g′ r′ u d → Stored vacant (t .registers) i (key g r s c) j → Known (t .slots) u
-    go j g′ r′ u d w (new x y) = record { row = k; state = loading; is = cc }
-    go j g′ r′ u d w (old x y) = σ .known j g′ r′ u d (cc)
-sound-step t ι t′ (finishes s i a q) σ = sound-put t σ s i idle (used-within (t .slots) i s _ q) (own _ q)
+    under : (u : List ℕ) → s ≡ u → Known (t .slots) u
+    under u z = subst (Known (t .slots)) z (known-of (t .slots) k s _ f)
+sound-step t ι t′ (finishes s i a q) σ = sound-put t σ s i _ (used-within (t .slots) i s _ q) (own _ q)
 sound-step t ι t′ (deletes s i a q) σ = record {
   names = names-free (t .slots) (σ .names) i (used-within (t .slots) i s a q);
   keys = keys-drop s (t .registers) (σ .keys);
@@ -193,15 +178,7 @@ sound-step t ι t′ (deletes s i a q) σ = record {
         at-row : Stored free (t .slots) i free (k .row) → Known (set (t .slots) i free) u
         at-row (new x y) = let z : s ≡ u = cc in absurd (clash (same-self s) (rw (← z) at n))
         at-row (old x y) = record { row = k .row; state = k .state; is = cc }
-sound-step t ι t′ (clears i g r s c q) σ = record {
-  names = σ .names;
-  keys = keys-vacant (t .registers) (σ .keys) i (key-within (t .registers) i g r s c q);
-  known = λ j g′ r′ u d w. go j g′ r′ u d w (stored vacant (t .registers) i vacant j (key-within (t .registers) i g r s c q));
-}
-  where
-    go : (j : ℕ) (g′ r′ : List ℕ) (u d : List ℕ) → getD (set (t .registers) i vacant) j vacant ≡ key g′ r′ u d → Stored vacant (t .registers) i vacant j → Known (t .slots) u
-    go j g′ r′ u d w (new x y) = nope (cc)
-    go j g′ r′ u d w (old x y) = σ .known j g′ r′ u d (cc)
+sound-step t ι t′ (clears i g r s c q) σ = sound-store t σ i _ (key-within (t .registers) i g r s c q) (λ g′ r′ u d e. nope (cc))
 sound-step t ι t′ resets σ = record {
   names = λ i j s a b p q. let m = stop-used _ s a (rw stop-row at p) .1 in let n = stop-used _ s b (rw stop-row at q) .1 in σ .names i j s (m .0) (n .0) (m .1) (n .1);
   keys = σ .keys;

@@ -1,18 +1,16 @@
 -- Demand 3 of every machine whose rows take the steps of specs/Step, for every list of requests and all row counts.
-use mathlib.Core.Path.{_≡_, refl, sym, ap, subst, _∙_}
-use mathlib.Core.Logic.{_↔_, _⊎_, inl, inr, _≢_}
-use mathlib.Core.List.{List, [], _∷_, _++_}
+use mathlib.Core.Path.{_≡_, sym, _∙_}
+use mathlib.Core.Logic.{_⊎_, inl, inr}
+use mathlib.Core.List.{List, [], _∷_}
 use Prim.Native.Nat.{ℕ, zero, suc}
-use native.Mathlib.Omega.{arith}
-use lib.ListN.{getD}
 use Rattle.history.proofs.Latch.{inv-finally, latch-to, latch-from, Moment, moment}
 use Rattle.octets.proofs.Flags.{nope}
 use Rattle.history.proofs.Rows.{getD-none}
 use Rattle.history.specs.Step.{Step}
-use Rattle.history.proofs.Sound.{Sound, sound-step, sound-empty, Known}
-use Rattle.history.proofs.Laws.{Clears, key-to, key-sets, key-keeps, Open, load-open, open-to}
+use Rattle.history.proofs.Sound.{Sound, sound-step, sound-empty}
+use Rattle.history.proofs.Laws.{Clears, one-key, key-to, key-sets, key-keeps, Open, load-open, open-to}
 use Rattle.history.specs.History.{Never, Since, finally, trace}
-use Rattle.history.specs.Demand3.{LoadInto, Load, Deletion, Opens, Ends, Live, InSession, StandsIn, Stands, Fills, OneRow, HasLive, Demand3}
+use Rattle.history.specs.Demand3.{LoadInto, Load, Deletion, Opens, Ends, Live, InSession, StandsIn, OneRow, Demand3}
 use Rattle.history.specs.Model.{Tables, Item, free, vacant, empty}
 
 -- "none of A or B" is "none of A, and none of B"
@@ -49,12 +47,6 @@ module _ (h : List Item) (g r : List ℕ) (n : ℕ) (s c : List ℕ) where
     last = m .0;
     kept = m .1;
   }
-
--- keys of one group and revision are one key
-one-key : (t : Tables) → Sound t → (g r : List ℕ) (n n′ : ℕ) (s c s′ c′ : List ℕ) → StandsIn t g r n s c → StandsIn t g r n′ s′ c′ → (n′ ≡ n) × (s′ ≡ s) × (c′ ≡ c)
-one-key t σ g r zero n′ s c s′ c′ p q = nope (cc)
-one-key t σ g r (suc i) zero s c s′ c′ p q = nope (cc)
-one-key t σ g r (suc i) (suc j) s c s′ c′ p q = let k = σ .keys i j g r s c s′ c′ p q in (cc, cc, cc)
 
 one-row-of : (t : Tables) → Sound t → (g r : List ℕ) (n : ℕ) (s c : List ℕ) → StandsIn t g r n s c → OneRow t s
 one-row-of t σ g r zero s c p = nope (cc)
