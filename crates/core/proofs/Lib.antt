@@ -1,3 +1,4 @@
 pub mod DoneBy
 pub mod Asked
 pub mod RowsAfter
+pub mod Fits

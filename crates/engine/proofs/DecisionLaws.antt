@@ -66,6 +66,7 @@ module _ (x : Call) (vs : List Value) (r s : List ℕ) where
 
 -- what is known where a decision is to carry out its command
 pub record Carried (x : Call) (d : Decision) : Type 0 where
+  pub none-first : firstNo (questions x) ≡ none
   pub yeses : AllYes (questions x)
   pub command : commandIn (x .request) ≡ commandFor d
   pub does : granted x (commandFor d) (fieldsIn (x .request)) (recordIn (commandFor d) (fieldsIn (x .request))) (slotIn (commandFor d) (fieldsIn (x .request))) ≡ d
@@ -107,13 +108,17 @@ module _ (x : Call) where
   unfolding questions
   built y = y .1 .1 .1 .1 .1 .1 .0
 
-  pub told : (r : Refusal) → decisionOf x ≡ Refuse r → answerOf x ≡ refused x r
-  unfolding decisionOf answerOf
-  told r e = go (firstNo (questions x)) refl e
+  pub refused-first : (r : Refusal) → decisionOf x ≡ Refuse r → firstNo (questions x) ≡ some r
+  unfolding decisionOf
+  refused-first r e = go (firstNo (questions x)) refl e
     where
-      go : (o : Option Refusal) → firstNo (questions x) ≡ o → decided o (granted x c vs (recordIn c vs) (slotIn c vs)) ≡ Refuse r → answerTo x o c vs ≡ refused x r
-      go (some q) w p = let z : q ≡ r = cc in ap (refused x) z
+      go : (o : Option Refusal) → firstNo (questions x) ≡ o → decided o (granted x c vs (recordIn c vs) (slotIn c vs)) ≡ Refuse r → o ≡ some r
+      go (some q) w p = cc
       go none w p = let g = granted-for x vs (recordIn c vs) (slotIn c vs) c (built (all-yes (questions x) w)) .1 in nope (cc)
+
+  pub told : (r : Refusal) → decisionOf x ≡ Refuse r → answerOf x ≡ refused x r
+  unfolding answerOf
+  told r e = rw (refused-first r e) refl
 
   pub carried : (d : Decision) → decisionOf x ≡ d → isRefuse d ≡ false → Carried x d
   unfolding decisionOf answerOf
@@ -124,4 +129,4 @@ module _ (x : Call) where
       go none w p =
           let y = all-yes (questions x) w in
           let g : c ≡ commandFor d = sym (granted-for x vs (recordIn c vs) (slotIn c vs) c (built y) .0) ∙ ap commandFor p in
-          record { yeses = y; command = g; does = rw (← g) p; answers = rw (w, ← g) refl }
+          record { none-first = w; yeses = y; command = g; does = rw (← g) p; answers = rw (w, ← g) refl }

@@ -27,18 +27,19 @@ pub record Written (q : List ℕ) (t : Told) (bytes : List ℕ) : Type 0 where
   pub under : Under q header
   pub is : bytes ≡ responseBytes header (t .status) (t .text)
 
-abbrev isSilent : Header → Bool
+abbrev pub isSilent : Header → Bool
 isSilent silent = true
 isSilent general = false
 isSilent own = false
 
-abbrev isOwn : Header → Bool
+abbrev pub isOwn : Header → Bool
 isOwn silent = false
 isOwn general = false
 isOwn own = true
 
-no-own : (b : Bool) → not b ≡ true → b ≡ true → ⊥
-no-own b n o = nope (cc)
+not-own : (b : Bool) → not b ≡ true → b ≡ false
+not-own true e = nope (cc)
+not-own false e = refl
 
 -- t is what is told of the request q, under the header h
 module _ (q : List ℕ) (t : Told) where
@@ -52,29 +53,48 @@ module _ (q : List ℕ) (t : Told) where
   by-header general y = inr (record { header = errorHeader; under = under-error; is = refl })
   by-header own y = inr (record { header = headerOf q; under = under-own (y refl); is = refl })
 
--- the questions in their groups; f is a test that every refusal passes whose response is written
+-- the group of the question that refused
 module _ (x : Call) (r : Refusal) where
+  abbrev pub later : List Question
+  later = laterQuestions x (commandIn (x .request)) (fieldsIn (x .request))
+
+  pub data Group : Type 0 where
+    of-tables : firstNo (tableQuestions x) ≡ some r → Group
+    of-message : AllYes (tableQuestions x) → firstNo (messageQuestions (x .request)) ≡ some r → Group
+    of-later : AllYes (tableQuestions x) → AllYes (messageQuestions (x .request)) → firstNo later ≡ some r → Group
+
+  pub refusal-group : firstNo (questions x) ≡ some r → Group
+  unfolding questions
+  refusal-group e = first (no-append (tableQuestions x) (messageQuestions (x .request) ++ later) r e)
+    where
+      next : AllYes (tableQuestions x) → (firstNo (messageQuestions (x .request)) ≡ some r) ⊎ ((firstNo (messageQuestions (x .request)) ≡ none) × (firstNo later ≡ some r)) → Group
+      next t (inl w) = of-message t w
+      next t (inr w) = of-later t (all-yes (messageQuestions (x .request)) (w .0)) (w .1)
+
+      first : (firstNo (tableQuestions x) ≡ some r) ⊎ ((firstNo (tableQuestions x) ≡ none) × (firstNo (messageQuestions (x .request) ++ later) ≡ some r)) → Group
+      first (inl w) = of-tables w
+      first (inr w) = next (all-yes (tableQuestions x) (w .0)) (no-append (messageQuestions (x .request)) later r (w .1))
+
+  -- refusals 1 to 4 are silent, and 5 to 7 not told under the request's own header
+  pub tables-silent : firstNo (tableQuestions x) ≡ some r → isSilent (refusal r .header) ≡ true
+  tables-silent w = no-listed (λ (z : Refusal). isSilent (refusal z .header)) (tableQuestions x) r refl w
+
+  pub message-general : firstNo (messageQuestions (x .request)) ≡ some r → isOwn (refusal r .header) ≡ false
+  message-general w = not-own (isOwn (refusal r .header)) (no-listed (λ (z : Refusal). not (isOwn (refusal z .header))) (messageQuestions (x .request)) r refl w)
+
+  -- f is a test that every refusal passes whose response is written
   abbrev pub bytes : List ℕ
   bytes = refusalBytes (x .request) (refusal r .header) (refusal r)
 
-  abbrev later : List Question
-  later = laterQuestions x (commandIn (x .request)) (fieldsIn (x .request))
-
   pub refusal-written : (f : Refusal → Bool) → allRefusals f (messageQuestions (x .request)) ≡ true → allRefusals f later ≡ true → firstNo (questions x) ≡ some r
       → (bytes ≡ []) ⊎ (Written (x .request) (refusal r) bytes × (f r ≡ true))
-  unfolding questions
-  refusal-written f m l e = first (no-append (tableQuestions x) (messageQuestions (x .request) ++ later) r e)
+  refusal-written f m l e = go (refusal-group e)
     where
       passed : f r ≡ true → (bytes ≡ []) ⊎ Written (x .request) (refusal r) bytes → (bytes ≡ []) ⊎ (Written (x .request) (refusal r) bytes × (f r ≡ true))
       passed p (inl n) = inl n
       passed p (inr w) = inr (w, p)
 
-      next : (firstNo (messageQuestions (x .request)) ≡ some r) ⊎ ((firstNo (messageQuestions (x .request)) ≡ none) × (firstNo later ≡ some r)) → (bytes ≡ []) ⊎ (Written (x .request) (refusal r) bytes × (f r ≡ true))
-      next (inl w) =
-          let n = no-listed (λ (z : Refusal). not (isOwn (refusal z .header))) (messageQuestions (x .request)) r refl w in
-          passed (no-listed f (messageQuestions (x .request)) r m w) (by-header (x .request) (refusal r) (refusal r .header) (λ o. absurd (no-own (isOwn (refusal r .header)) n o)))
-      next (inr w) = passed (no-listed f later r l (w .1)) (by-header (x .request) (refusal r) (refusal r .header) (λ o. all-yes (messageQuestions (x .request)) (w .0)))
-
-      first : (firstNo (tableQuestions x) ≡ some r) ⊎ ((firstNo (tableQuestions x) ≡ none) × (firstNo (messageQuestions (x .request) ++ later) ≡ some r)) → (bytes ≡ []) ⊎ (Written (x .request) (refusal r) bytes × (f r ≡ true))
-      first (inl w) = inl (quiet (x .request) (refusal r) (refusal r .header) (no-listed (λ (z : Refusal). isSilent (refusal z .header)) (tableQuestions x) r refl w))
-      first (inr w) = next (no-append (messageQuestions (x .request)) later r (w .1))
+      go : Group → (bytes ≡ []) ⊎ (Written (x .request) (refusal r) bytes × (f r ≡ true))
+      go (of-tables w) = inl (quiet (x .request) (refusal r) (refusal r .header) (tables-silent w))
+      go (of-message t w) = passed (no-listed f (messageQuestions (x .request)) r m w) (by-header (x .request) (refusal r) (refusal r .header) (λ o. nope (let n = message-general w in cc)))
+      go (of-later t y w) = passed (no-listed f later r l w) (by-header (x .request) (refusal r) (refusal r .header) (λ o. y))

@@ -26,7 +26,7 @@ use Rattle.records.specs.Records.{field}
 use Rattle.identities.specs.Identities.{colon, nameIn, fingerprintIn, identityInForm}
 use Rattle.key_records.specs.KeyRecords.{bar, publicKeyInForm, responseInForm, keyInForm}
 use Rattle.stored_cards.specs.Stored.{inRow}
-use Rattle.card_laws.proofs.Incoming.{stored-text}
+use Rattle.card_laws.proofs.Incoming.{stored-text, stored-short}
 use Rattle.commands.specs.declared.Command.{Command}
 use Rattle.commands.specs.declared.Command.the-variants.{RS, KC, KR, KL, KF, KX, KD, GA, GL, KQ, Unknown}
 use Rattle.attributes.specs.Table.{SGC, KRN, KSL}
@@ -223,6 +223,10 @@ module _ (x : Call) (vs : List Value) (y : Yes x KL vs) where
   pub is-text : areAll Text stored ≡ true
   unfolding loadedCard areAll isNumber isUnpadded
   is-text = stored-text card is-card (48 ∷ []) (x .supplement .check) name (48 ∷ []) refl is-check is-name refl
+
+  pub is-short : length stored ≤ 256
+  unfolding loadedCard areAll isNumber isUnpadded
+  is-short = stored-short card is-card (48 ∷ []) (x .supplement .check) name (48 ∷ []) refl is-check is-name refl
 
   is-reading : registerIs (filledRegister stored) ≡ key (groupIn card) (revisionIn card) name (inRow stored)
   unfolding loadedCard

@@ -17,6 +17,7 @@ ghost use Rattle.replies.specs.Tellings.{toldIn, statusIn, textIn, sm, C
 pub fn reply(dst: &mut [u8], header: &[u8], status: &[u8]) -> usize
     requires { ⌜ (3 ≤ length (now header)) × (length (now header) + length (now status) + 5 ≤ length (now dst)) ⌝ }
     ensures { λ r. ⌜ Wrote (now (dst .entry)) 0 (responseBytes (now (header .entry)) (now (status .entry)) []) (now (dst .exit)) r ⌝ }
+    ensures fits { λ r. ⌜ r ≤ length (now (dst .entry)) ⌝ }
 {
     let end = frames::put_head(dst, header, status);
     frames::close_message(dst, end)
@@ -26,6 +27,7 @@ pub fn reply(dst: &mut [u8], header: &[u8], status: &[u8]) -> usize
 pub fn reply_text(dst: &mut [u8], header: &[u8], status: &[u8], v: &[u8]) -> usize
     requires { ⌜ (3 ≤ length (now header)) × (length (now header) + length (now status) + length (now v) + 7 ≤ length (now dst)) ⌝ }
     ensures { λ r. ⌜ Wrote (now (dst .entry)) 0 (responseBytes (now (header .entry)) (now (status .entry)) (string (now (v .entry)) ∷ [])) (now (dst .exit)) r ⌝ }
+    ensures fits { λ r. ⌜ r ≤ length (now (dst .entry)) ⌝ }
 {
     let a = frames::put_head(dst, header, status);
     let b = field_writer::put_string(dst, a, v);
@@ -36,6 +38,7 @@ pub fn reply_text(dst: &mut [u8], header: &[u8], status: &[u8], v: &[u8]) -> usi
 pub fn reply_texts(dst: &mut [u8], header: &[u8], status: &[u8], v: &[u8], w: &[u8]) -> usize
     requires { ⌜ (3 ≤ length (now header)) × (length (now header) + length (now status) + length (now v) + length (now w) + 9 ≤ length (now dst)) ⌝ }
     ensures { λ r. ⌜ Wrote (now (dst .entry)) 0 (responseBytes (now (header .entry)) (now (status .entry)) (string (now (v .entry)) ∷ string (now (w .entry)) ∷ [])) (now (dst .exit)) r ⌝ }
+    ensures fits { λ r. ⌜ r ≤ length (now (dst .entry)) ⌝ }
 {
     let a = frames::put_head(dst, header, status);
     let first = field_writer::put_string(dst, a, v);
@@ -47,6 +50,7 @@ pub fn reply_texts(dst: &mut [u8], header: &[u8], status: &[u8], v: &[u8], w: &[
 pub fn reply_number_text(dst: &mut [u8], header: &[u8], status: &[u8], n: u32, w: &[u8]) -> usize
     requires { ⌜ (3 ≤ length (now header)) × (length (now header) + length (now status) + 12 + length (now w) + 2 + 5 ≤ length (now dst)) ⌝ }
     ensures { λ r. ⌜ Wrote (now (dst .entry)) 0 (responseBytes (now (header .entry)) (now (status .entry)) (number n ∷ string (now (w .entry)) ∷ [])) (now (dst .exit)) r ⌝ }
+    ensures fits { λ r. ⌜ r ≤ length (now (dst .entry)) ⌝ }
 {
     let a = frames::put_head(dst, header, status);
     let b = field_writer::put_number(dst, a, n);
@@ -131,6 +135,7 @@ fn sm_text(d: u8) -> [u8; 7]
 fn tell(dst: &mut [u8], header: &[u8], t: Telling, n: u8) -> usize
     requires { ⌜ (3 ≤ length (now header)) × (length (now header) + 16 ≤ length (now dst)) ⌝ }
     ensures { λ r. ⌜ Wrote (now (dst .entry)) 0 (responseBytes (now (header .entry)) (statusIn t) (textIn t n)) (now (dst .exit)) r ⌝ }
+    ensures fits { λ r. ⌜ r ≤ length (now (dst .entry)) ⌝ }
 {
     match t {
         Telling::Nothing => reply(dst, header, b""),
@@ -153,6 +158,7 @@ fn tell(dst: &mut [u8], header: &[u8], t: Telling, n: u8) -> usize
 pub fn refuse(dst: &mut [u8], request: &[u8], r: Refusal) -> usize
     requires { ⌜ CanTell (refusal r .header) (length (now request)) (length (now dst)) ⌝ }
     ensures { λ n. ⌜ Wrote (now (dst .entry)) 0 (refusalBytes (now (request .entry)) (refusal r .header) (refusal r)) (now (dst .exit)) n ⌝ }
+    ensures fits { λ n. ⌜ n ≤ length (now (dst .entry)) ⌝ }
 {
     let e = entry_of(r);
     let n = e.0;

@@ -9,12 +9,12 @@ refuse-spec =
     tie.close
     (tie.spec
     (λ c κs. search needs)
-    (λ c. search silently)
+    (λ c. (search silently, search needs))
     (λ c. search needs)
     (λ c κs. (search needs, search general-fits))
     (λ c. search needs)
-    (λ c. search generally)
+    (λ c. (search generally, search needs))
     (λ c κs. search needs)
     (λ c κs. (search own-long, search own-fits))
     (λ c. search needs)
-    (λ c. search own-told))
+    (λ c. (search own-told, search needs)))

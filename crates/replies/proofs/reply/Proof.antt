@@ -11,4 +11,4 @@ reply-spec =
     (λ c κs. search needs)
     (λ c κs. search needs)
     (λ c. search needs)
-    (λ c. search replied))
+    (λ c. (search replied, search needs)))

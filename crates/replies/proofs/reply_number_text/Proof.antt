@@ -13,4 +13,4 @@ reply-number-text-spec =
     (λ c κs. search needs)
     (λ c κs. search needs)
     (λ c. search needs)
-    (λ c. search replied-number-text))
+    (λ c. (search replied-number-text, search needs)))

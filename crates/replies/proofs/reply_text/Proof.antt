@@ -12,4 +12,4 @@ reply-text-spec =
     (λ c κs. search needs)
     (λ c κs. search needs)
     (λ c. search needs)
-    (λ c. search replied-text))
+    (λ c. (search replied-text, search needs)))

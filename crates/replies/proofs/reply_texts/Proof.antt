@@ -13,4 +13,4 @@ reply-texts-spec =
     (λ c κs. search needs)
     (λ c κs. search needs)
     (λ c. search needs)
-    (λ c. search replied-texts))
+    (λ c. (search replied-texts, search needs)))

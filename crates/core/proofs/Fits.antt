@@ -1,0 +1,176 @@
+-- What a decision says of its places, its strings and the room is enough to write its response and to change the rows.
+use mathlib.Core.Path.{_≡_, refl, sym, ap, subst, _∙_}
+use mathlib.Core.Bool.{Bool, true, false, _&&_}
+use mathlib.Core.List.{List, [], _∷_}
+use mathlib.Core.Option.{Option, none, some}
+use Prim.Native.Nat.{ℕ, zero, suc, _-_, _≤_, _<_}
+use native.Mathlib.Omega.{arith}
+use lib.Dec.{leb}
+use lib.ListN.{length, take}
+use borrow.Author.Tests.{leb-true}
+use Rattle.octets.proofs.Flags.{nope, and-first, and-second}
+use Rattle.timestamp.specs.Timestamps.{isTimestamp}
+use Rattle.text.proofs.Identify.{name-short}
+use Rattle.fields.specs.Values.{Value}
+use Rattle.forms.specs.Forms.{inForm}
+use Rattle.forms.specs.declared.Form.the-variants.{Name}
+use Rattle.frames.specs.Frames.{isWhole}
+use Rattle.records.specs.Records.{field}
+use Rattle.identities.specs.Identities.{colon, identityInForm}
+use Rattle.key_records.specs.KeyRecords.{bar, publicKeyInForm, responseInForm}
+use Rattle.commands.specs.declared.Command.{Command}
+use Rattle.commands.specs.declared.Command.the-variants.{RS, KC, KR, KL, KF, KX, KD}
+use Rattle.payloads.proofs.PayloadLaws.{text-fields}
+use Rattle.rows.specs.Supplements.{isWellFormed, isIdentityRight, isLoadRequestRight}
+use Rattle.rows.specs.declared.Supplement.{Supplement}
+use Rattle.rows.specs.declared.Tables.{Tables}
+use Rattle.engine.specs.Refusals.{Header, silent, general, own, refusal}
+use Rattle.engine.specs.Requests.{commandIn, fieldsIn, registerIn, recordIn, slotIn, cardIn, areFieldsOf, firstText}
+use Rattle.engine.specs.Questions.{Call, areCounts, placeIn, questions, firstNo}
+use Rattle.engine.specs.Calls.{callIn}
+use Rattle.engine.specs.Decisions.{granted, decided, decisionOf}
+use Rattle.engine.specs.declared.Refusal.{Refusal}
+use Rattle.engine.specs.declared.Decision.{Decision}
+use Rattle.engine.specs.declared.Decision.the-variants.{Refuse, Reset, Pend, Open, Load, Finish, Delete, Clear}
+use Rattle.engine.proofs.DecisionLaws.{commandFor, isRefuse, carried, refused-first}
+use Rattle.engine.proofs.RefusalLaws.{isSilent, isOwn, Group, of-tables, of-message, of-later, refusal-group, tables-silent, message-general}
+use Rattle.engine.proofs.Steps.{Yes, yes-of, is-short}
+use Rattle.replies.specs.Tellings.{CanTell}
+use Rattle.replies.proofs.ReplyLaws.{can-tell}
+use Rattle.responding.specs.Responding.{kmcidOf, HasRoom, CanRespond}
+use Rattle.changes.specs.Changes.{cardOf, CanChange}
+use Rattle.core.proofs.DoneBy.{load-place, pend-place, open-place, finish-place, delete-place, clear-place}
+use Rattle.core.proofs.Asked.{Asked, asked-of, slot-below, session-below, card-below, filled-below}
+
+-- a request that is whole has ten bytes at least
+whole-ten : (q : List ℕ) → isWhole q ≡ true → 10 ≤ length q
+unfolding isWhole
+whole-ten q e = leb-true 10 (length q) (and-first (leb 10 (length q)) _ e)
+
+few-slots : (n m : ℕ) → areCounts n m ≡ true → n ≤ 8
+unfolding areCounts
+few-slots n m e = leb-true n 8 (and-first (leb n 8) _ (and-second (leb 1 n) _ e))
+
+few-registers : (n m : ℕ) → areCounts n m ≡ true → m ≤ 32
+unfolding areCounts
+few-registers n m e = leb-true m 32 (and-second (leb 1 m) (leb m 32) (and-second (leb n 8) _ (and-second (leb 1 n) _ e)))
+
+-- the KMCID of an identity in form has 40 bytes at most
+identity-short : (s : List ℕ) → identityInForm s ≡ true → length (field colon 2 s) ≤ 40
+unfolding identityInForm
+identity-short s e = name-short (field colon 2 s) (and-first (inForm Name (field colon 2 s)) _ (and-second (inForm Name (field colon 1 s)) _ e))
+
+public-short : (r : List ℕ) → publicKeyInForm r ≡ true → length (field colon 2 (field bar 1 r)) ≤ 40
+unfolding publicKeyInForm
+public-short r e = identity-short (field bar 1 r) (and-first (identityInForm (field bar 1 r)) _ e)
+
+response-short : (r : List ℕ) → responseInForm r ≡ true → length (field colon 2 (field bar 1 r)) ≤ 40
+unfolding responseInForm
+response-short r e = identity-short (field bar 1 r) (and-first (identityInForm (field bar 1 r)) _ e)
+
+request-short : (x : Supplement) → isWellFormed x ≡ true → x .«request_length» ≤ 700
+unfolding isWellFormed isLoadRequestRight
+request-short x e =
+    let l : isLoadRequestRight x ≡ true = and-first (isLoadRequestRight x) _ (and-second (isIdentityRight x) _ (and-second (isTimestamp (x .clock)) _ e)) in
+    leb-true (x .«request_length») 700 (and-first (leb (x .«request_length») 700) _ (and-second (leb 1 (x .«request_length»)) _ l))
+
+-- a refusal is told where there is room
+silent-tells : (h : Header) (n m : ℕ) → isSilent h ≡ true → CanTell h n m
+silent-tells silent n m e = tt
+silent-tells general n m e = nope (cc)
+silent-tells own n m e = nope (cc)
+
+general-tells : (h : Header) (n m : ℕ) → isOwn h ≡ false → 1024 ≤ m → CanTell h n m
+general-tells silent n m e r = tt
+general-tells general n m e r = r
+general-tells own n m e r = nope (cc)
+
+take-short : {A : Type 0} (n : ℕ) (l : List A) → length (take n l) ≤ n
+take-short zero l = omega arith
+take-short (suc n) [] = omega arith
+take-short (suc n) (x ∷ xs) = let h = take-short n xs in omega arith
+
+module _ (c : Call) where
+  tells : (r : Refusal) → decisionOf c ≡ Refuse r → CanTell (refusal r .header) (length (c .request)) (c .room)
+  tells r e = go (refusal-group c r (refused-first c r e))
+    where
+      go : Group c r → CanTell (refusal r .header) (length (c .request)) (c .room)
+      go (of-tables w) = silent-tells (refusal r .header) (length (c .request)) (c .room) (tables-silent c r w)
+      go (of-message t w) = general-tells (refusal r .header) (length (c .request)) (c .room) (message-general c r w) (leb-true 1024 (c .room) (t .1 .0))
+      go (of-later t y w) = can-tell (refusal r .header) (length (c .request)) (c .room) (whole-ten (c .request) (y .0)) (leb-true 1024 (c .room) (t .1 .0))
+
+  module _ (k : Command) (y : Asked c k) where
+    has-room : HasRoom (length (c .request)) (c .room)
+    has-room = (whole-ten (c .request) (y .1 .1 .1 .1 .0), leb-true 1024 (c .room) (y .1 .0))
+
+  yes-at : (d : Decision) → decisionOf c ≡ d → isRefuse d ≡ false → Yes c (commandFor d) (fieldsIn (c .request))
+  yes-at d e n = let k = carried c d e n in subst (λ (o : Command). Yes c o (fieldsIn (c .request))) (k .command) (yes-of c (k .none-first))
+
+  loaded-short : (k : ℕ) → decisionOf c ≡ Load k → length (cardOf (c .supplement) (fieldsIn (c .request))) ≤ 256
+  unfolding recordIn slotIn
+  loaded-short k e = is-short c (fieldsIn (c .request)) (yes-at (Load k) e refl)
+
+-- the places of a call over tables by value
+module _ (t : Tables) (x : Supplement) (q : List ℕ) (room : ℕ) where
+  abbrev k₀ : Call
+  k₀ = callIn t x q room
+
+  abbrev vs : List Value
+  vs = fieldsIn q
+
+  -- a place among the rows is one of the places
+  slot-place : (o : Command) → Asked k₀ o → (k i : ℕ) → i ≡ k → i < length (take (t .«slot_count») (t .slots)) → k < 8
+  slot-place o y k i e h =
+      let a = few-slots (t .«slot_count») (t .«register_count») (y .0) in
+      let b = take-short (t .«slot_count») (t .slots) in
+      omega arith
+
+  register-place : (o : Command) → Asked k₀ o → (k i : ℕ) → i ≡ k → i < length (take (t .«register_count») (t .registers)) → k < 32
+  register-place o y k i e h =
+      let a = few-registers (t .«slot_count») (t .«register_count») (y .0) in
+      let b = take-short (t .«register_count») (t .registers) in
+      omega arith
+
+  load-low : (k : ℕ) → decisionOf k₀ ≡ Load k → k < 32
+  load-low k e =
+      let y = asked-of k₀ (Load k) e refl in
+      register-place KL y k _ (load-place k₀ k e) (card-below (cardIn (recordIn KL vs)) (k₀ .registers) (y .1 .1 .1 .1 .1 .1 .1 .1 .1 .1 .1 .1 .1 .1 .1 .1 .1 .1 .1 .0))
+
+  pub can-respond : (d : Decision) → decisionOf k₀ ≡ d → CanRespond d x q room
+  unfolding recordIn
+  can-respond (Refuse r) e = tells k₀ r e
+  can-respond Reset e = has-room k₀ RS (asked-of k₀ Reset e refl)
+  can-respond (Pend k) e =
+      let y = asked-of k₀ (Pend k) e refl in
+      (has-room k₀ KC y, (sym (text-fields KC vs refl) ∙ y .1 .1 .1 .1 .1 .1 .1 .0, (public-short (firstText vs) (and-first (publicKeyInForm (firstText vs)) true (y .1 .1 .1 .1 .1 .1 .1 .1 .1 .0)), request-short x (y .1 .1 .1 .0))))
+  can-respond (Open k) e =
+      let y = asked-of k₀ (Open k) e refl in
+      (has-room k₀ KR y, (sym (text-fields KR vs refl) ∙ y .1 .1 .1 .1 .1 .1 .1 .0, response-short (firstText vs) (and-first (responseInForm (firstText vs)) true (y .1 .1 .1 .1 .1 .1 .1 .1 .1 .0))))
+  can-respond (Load k) e =
+      let y = asked-of k₀ (Load k) e refl in
+      (has-room k₀ KL y, (y .1 .1 .1 .1 .1 .1 .1 .0, (loaded-short k₀ k e, load-low k e)))
+  can-respond (Finish k) e = has-room k₀ KF (asked-of k₀ (Finish k) e refl)
+  can-respond (Delete k) e = has-room k₀ KX (asked-of k₀ (Delete k) e refl)
+  can-respond (Clear k) e = has-room k₀ KD (asked-of k₀ (Clear k) e refl)
+
+  pub can-change : (d : Decision) → decisionOf k₀ ≡ d → CanChange d t x vs
+  can-change (Refuse r) e = tt
+  can-change Reset e = few-slots (t .«slot_count») (t .«register_count») (asked-of k₀ Reset e refl .0)
+  can-change (Pend k) e =
+      let y = asked-of k₀ (Pend k) e refl in
+      (slot-place KC y k _ (pend-place k₀ k e) (session-below (slotIn KC vs) (k₀ .slots) (y .1 .1 .1 .1 .1 .1 .1 .1 .1 .1 .1 .1 .0)), sym (text-fields KC vs refl) ∙ y .1 .1 .1 .1 .1 .1 .1 .0)
+  can-change (Open k) e =
+      let y = asked-of k₀ (Open k) e refl in
+      slot-place KR y k _ (open-place k₀ k e) (slot-below (slotIn KR vs) (k₀ .slots) (y .1 .1 .1 .1 .1 .1 .1 .1 .1 .1 .1 .0))
+  can-change (Load k) e =
+      let y = asked-of k₀ (Load k) e refl in
+      (load-low k e, (y .1 .1 .1 .1 .1 .1 .1 .0, loaded-short k₀ k e))
+  can-change (Finish k) e =
+      let y = asked-of k₀ (Finish k) e refl in
+      slot-place KF y k _ (finish-place k₀ k e) (slot-below (slotIn KF vs) (k₀ .slots) (y .1 .1 .1 .1 .1 .1 .1 .1 .1 .1 .1 .0))
+  can-change (Delete k) e =
+      let y = asked-of k₀ (Delete k) e refl in
+      (slot-place KX y k _ (delete-place k₀ k e) (slot-below (slotIn KX vs) (k₀ .slots) (y .1 .1 .1 .1 .1 .1 .1 .1 .1 .1 .1 .0)), (few-registers (t .«slot_count») (t .«register_count») (y .0), sym (text-fields KX vs refl) ∙ y .1 .1 .1 .1 .1 .1 .1 .0))
+  can-change (Clear k) e =
+      let y = asked-of k₀ (Clear k) e refl in
+      register-place KD y k _ (clear-place k₀ k e) (filled-below (registerIn vs) (k₀ .registers) (y .1 .1 .1 .1 .1 .1 .1 .1 .1 .1 .1 .1 .1 .1 .1 .1 .1 .1 .1 .1 .0))
