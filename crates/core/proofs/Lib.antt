@@ -2,3 +2,4 @@ pub mod DoneBy
 pub mod Asked
 pub mod RowsAfter
 pub mod Fits
+pub mod HandleLaws

@@ -1,0 +1,45 @@
+-- From the decision on a call to its answer, as the code puts it together: d is the decision, p the payload.
+use mathlib.Core.Path.{_≡_, refl, sym, ap, _∙_}
+use mathlib.Core.List.{List}
+use Prim.Native.Nat.{ℕ, _≤_}
+use lib.ListN.{length}
+use native.Mathlib.Omega.{arith}
+use Rattle.octets.specs.Wrote.{Wrote}
+use Rattle.octets.proofs.Writes.{from-start}
+use Rattle.fields.specs.Values.{valuesOf}
+use Rattle.frames.specs.Frames.{payloadOf}
+use Rattle.rows.specs.declared.Supplement.{Supplement}
+use Rattle.rows.specs.declared.Tables.{Tables}
+use Rattle.engine.specs.Answers.{bufferAfter, answerOf}
+use Rattle.engine.specs.Calls.{callIn, tablesAfter}
+use Rattle.engine.specs.Decisions.{decisionOf}
+use Rattle.engine.specs.declared.Decision.{Decision}
+use Rattle.engine.specs.declared.Outcome.{Outcome}
+use Rattle.responding.specs.Responding.{outcomeFor, responseFor, CanRespond}
+use Rattle.changes.specs.Changes.{tablesFor, CanChange}
+use Rattle.core.proofs.DoneBy.{outcome-is, response-is}
+use Rattle.core.proofs.RowsAfter.{tables-are}
+use Rattle.core.proofs.Fits.{can-respond, can-change}
+
+module _ (t : Tables) (x : Supplement) (q : List ℕ) (room : ℕ) (d : Decision) (e : d ≡ decisionOf (callIn t x q room)) where
+  pub responds : CanRespond d x q room
+  responds = can-respond t x q room d (sym e)
+
+  pub changes : (p : List ℕ) → p ≡ payloadOf q → CanChange d t x (valuesOf p)
+  changes p w = rw w (can-change t x q room d (sym e))
+
+  pub outcome-right : (o : Outcome) → o ≡ outcomeFor d → o ≡ answerOf (callIn t x q room) .outcome
+  outcome-right o w = w ∙ outcome-is (callIn t x q room) d (sym e)
+
+  pub rows-right : (p : List ℕ) → p ≡ payloadOf q → (u : Tables) → u ≡ tablesFor d t x (valuesOf p) → u ≡ tablesAfter t (answerOf (callIn t x q room))
+  rows-right p w u v = v ∙ (rw w (tables-are t x q room d (sym e)))
+
+  module _ (a b : List ℕ) (n : ℕ) (w : Wrote a 0 (responseFor d x q) b n) where
+    response-right : responseFor d x q ≡ answerOf (callIn t x q room) .response
+    response-right = response-is (callIn t x q room) d (sym e)
+
+    pub length-right : n ≡ length (answerOf (callIn t x q room) .response)
+    length-right = omega (arith, w .next) ∙ ap length response-right
+
+    pub buffer-right : n ≤ length a → b ≡ bufferAfter (answerOf (callIn t x q room)) a
+    buffer-right h = rw response-right at (from-start w (omega (arith, w .next)))

@@ -1,0 +1,26 @@
+-- `responding::outcome` meets its contract, an arm at a time.
+use Rattle.responding.proofs.RespondLaws.{outcome-arm}
+use borrow.Author.Needs.{needs}
+use Rattle.responding.proofs.outcome.Statement.{statement}
+use Rattle.responding.proofs.outcome.Tie as tie
+
+pub outcome-spec : {M : Type 1} → statement M
+outcome-spec =
+    tie.close
+    (tie.spec
+    (λ c. search needs)
+    (λ c. search needs)
+    (λ c. search needs)
+    (λ c. search needs)
+    (λ c. search needs)
+    (λ c. search needs)
+    (λ c. search needs)
+    (λ c. search needs)
+    (λ c. search outcome-arm)
+    (λ c. search needs)
+    (λ c. search outcome-arm)
+    (λ c. search outcome-arm)
+    (λ c. search outcome-arm)
+    (λ c. search outcome-arm)
+    (λ c. search outcome-arm)
+    (λ c. search needs))
