@@ -3,3 +3,4 @@ pub mod Asked
 pub mod RowsAfter
 pub mod Fits
 pub mod HandleLaws
+pub mod EntryLists
