@@ -1,22 +1,19 @@
--- The questions of a whole call in turn, each with what the code knows where it answers as premises; the first seven are the same for every command.
+-- The first seven questions in turn, which are the same for every command, each with what the code knows where it answers as premises.
 use mathlib.Core.Path.{_≡_, refl, sym, ap, _∙_}
-use mathlib.Core.Bool.{Bool, true, false, cond, not, _&&_}
-use mathlib.Core.List.{List, [], _∷_}
-use mathlib.Core.Option.{Option, none, some}
+use mathlib.Core.Bool.{Bool, true, false, not}
+use mathlib.Core.List.{List}
+use mathlib.Core.Option.{none}
 use Prim.Native.Nat.{ℕ, _≤_, _<_}
 use lib.Dec.{leb}
 use lib.ListN.{take}
 use borrow.Author.Tests.{le-leb, lt-leb, leb-true, not-true, not-false}
-use Rattle.octets.proofs.Flags.{nope, and-first, and-second}
-use Rattle.fields.specs.Values.{Value, valuesOf}
+use Rattle.octets.proofs.Flags.{and-first, and-second}
+use Rattle.fields.specs.Values.{valuesOf}
 use Rattle.frames.specs.Frames.{isWhole, isChecked, headerOf, payloadOf}
 use Rattle.commands.specs.Commands.{commandOf}
 use Rattle.commands.specs.declared.Command.{Command}
-use Rattle.commands.specs.declared.Command.the-variants.{RS, KC, KR, KL, KF, KX, KD, GA, GL, KQ, Unknown}
 use Rattle.rows.specs.Sound.{areSound}
 use Rattle.rows.specs.Supplements.{isWellFormed}
-use Rattle.rows.specs.declared.SlotRow.{SlotRow}
-use Rattle.rows.specs.declared.RegisterRow.{RegisterRow}
 use Rattle.rows.specs.declared.Supplement.{Supplement}
 use Rattle.rows.specs.declared.Tables.{Tables}
 use Rattle.engine.specs.Requests.{isBuilt}
@@ -27,30 +24,6 @@ use Rattle.engine.specs.declared.Refusal.the-variants.{RowCounts, ShortBuffer, 
 use Rattle.engine.specs.declared.Decision.{Decision}
 use Rattle.engine.specs.declared.Decision.the-variants.{Refuse}
 use Rattle.engine.proofs.DecisionLaws.{tables-refused, message-refused, command-decides}
-
--- decide_command: an arm of the match, by what its command is asked about
-module _ (c o : Command) (e : c ≡ o) (vs : List Value) (d : Decision) where
-  pub arm-fields : ((k : Call) → d ≡ decisionFor k o vs) → (k : Call) → d ≡ decisionFor k c vs
-  arm-fields all k = rw e (all k)
-
-  pub arm-slots : (l : List SlotRow) → ((k : Call) → k .slots ≡ l → d ≡ decisionFor k o vs) → (k : Call) → k .slots ≡ l → d ≡ decisionFor k c vs
-  arm-slots l all k h = rw e (all k h)
-
-  pub arm-registers : (l : List RegisterRow) → ((k : Call) → k .registers ≡ l → d ≡ decisionFor k o vs) → (k : Call) → k .registers ≡ l → d ≡ decisionFor k c vs
-  arm-registers l all k h = rw e (all k h)
-
-  pub arm-session : (l : List SlotRow) (x : Supplement) → ((k : Call) → k .slots ≡ l → k .supplement ≡ x → d ≡ decisionFor k o vs) → (k : Call) → k .slots ≡ l → k .supplement ≡ x → d ≡ decisionFor k c vs
-  arm-session l x all k h g = rw e (all k h g)
-
-  pub arm-load : (l : List SlotRow) (r : List RegisterRow) (x : Supplement) → ((k : Call) → k .slots ≡ l → k .registers ≡ r → k .supplement ≡ x → d ≡ decisionFor k o vs)
-      → (k : Call) → k .slots ≡ l → k .registers ≡ r → k .supplement ≡ x → d ≡ decisionFor k c vs
-  arm-load l r x all k h i g = rw e (all k h i g)
-
-pub ruleset arms = (arm-fields, arm-slots, arm-registers, arm-session, arm-load)
-
--- a command that is not built does not come so far
-pub no-arm : (c o : Command) → c ≡ o → isBuilt c ≡ true → isBuilt o ≡ false → (k : Call) (vs : List Value) (d : Decision) → d ≡ decisionFor k c vs
-no-arm c o e p q k vs d = nope (cc)
 
 -- is_built
 pub built-arm : (c o : Command) → c ≡ o → (b : Bool) → b ≡ isBuilt o → b ≡ isBuilt c

@@ -1,5 +1,5 @@
 -- The cases of the parser, each with what the code knows where it answers as premises.
-use mathlib.Core.Path.{_≡_, refl, sym, _∙_}
+use mathlib.Core.Path.{_≡_, refl, sym, ap, _∙_}
 use mathlib.Core.Bool.{Bool, true, false, not}
 use mathlib.Core.List.{List, []}
 use Prim.Native.Nat.{ℕ, _+_, _-_, _<_}
@@ -28,6 +28,10 @@ a-body s = refl
 pub a-field : (d k : ℕ) (s v : List ℕ) → v ≡ getD (pieces d s) k [] → v ≡ field d k s
 unfolding field
 a-field d k s v e = e
+
+-- a field of a part that was named u
+pub in-field : (d k : ℕ) (u v w : List ℕ) → u ≡ v → w ≡ field d k u → w ≡ field d k v
+in-field d k u v w e p = p ∙ ap (field d k) e
 
 -- is_record, a test after the other
 module _ (d : ℕ) (kind : List ℕ) (n : ℕ) (s v : List ℕ) (p : v ≡ field d 0 s) (t : Bool) (q : t ≡ sameBytes v kind) where

@@ -1,49 +1,35 @@
 -- The cases of the strings, and what is made of them, in the definitions' words.
-use mathlib.Core.Path.{_≡_, refl, sym, ap, _∙_}
-use mathlib.Core.Bool.{Bool, true, false}
+use mathlib.Core.Path.{_≡_, refl, ap, _∙_}
+use mathlib.Core.Bool.{true}
 use mathlib.Core.List.{List, [], _∷_}
-use Prim.Native.Nat.{ℕ, _-_, _≤_}
-use lib.ListN.{length, take, drop}
+use Prim.Native.Nat.{ℕ, _≤_}
+use lib.ListN.{length}
 use Rattle.octets.proofs.Flags.{nope}
-use Rattle.fields.specs.Values.{Value, valuesOf}
-use Rattle.records.specs.Records.{field}
+use Rattle.fields.specs.Values.{valuesOf}
 use Rattle.cards.specs.Entries.{between}
 use Rattle.cards.specs.declared.Found.{Found}
 use Rattle.cards.specs.declared.Found.the-variants as found
 use Rattle.stored_cards.specs.Stored.{storedCard, inRow}
 use Rattle.commands.specs.declared.Command.the-variants.{KF, KL}
-use Rattle.payloads.specs.Payloads.{textIn, firstTextIn, secondTextIn, firstBetween, secondBetween}
+use Rattle.payloads.specs.Payloads.{textIn, firstTextIn, firstBetween}
 use Rattle.payloads.specs.declared.TwoTexts.{TwoTexts}
 use Rattle.payloads.specs.declared.TwoTexts.the-variants as texts
-use Rattle.payloads.proofs.PayloadLaws.{text-absent, text-between, texts-absent, first-between, second-between}
+use Rattle.payloads.proofs.PayloadLaws.{text-absent, texts-absent}
 use Rattle.rows.specs.Slots.{filledSlot}
 use Rattle.rows.specs.declared.SlotRow.{SlotRow}
 use Rattle.rows.specs.declared.SlotState.the-variants.{Pending}
-use Rattle.engine.specs.Requests.{areFieldsOf, firstText, secondText, cardIn}
+use Rattle.engine.specs.Requests.{areFieldsOf, firstText}
 use Rattle.engine.specs.Answers.{loadedCard}
 
--- only_text
+-- only_text: there is one
 module _ (p : List ℕ) (f : Found) (w : between p f ≡ textIn (valuesOf p)) where
   pub only-absent : areFieldsOf KF (valuesOf p) ≡ true → f ≡ found.Nothing → (s : List ℕ) → s ≡ firstText (valuesOf p)
   only-absent e o s = let z = text-absent p (valuesOf p) f w o in nope (cc)
 
-  pub only-found : (a b : ℕ) → f ≡ found.At a b → take (b - a) (drop a p) ≡ firstText (valuesOf p)
-  only-found a b o = text-between p (valuesOf p) f w a b o
-
--- first_text and second_text
+-- first_text and second_text: there are two
 module _ (p : List ℕ) (f : TwoTexts) (w : firstBetween p f ≡ firstTextIn (valuesOf p)) where
   pub both-absent : areFieldsOf KL (valuesOf p) ≡ true → f ≡ texts.Nothing → (s t : List ℕ) → s ≡ t
   both-absent e o s t = let z = texts-absent p (valuesOf p) f w o in nope (cc)
-
-  pub first-found : (a b i j : ℕ) → f ≡ texts.At a b i j → take (b - a) (drop a p) ≡ firstText (valuesOf p)
-  first-found a b i j o = first-between p (valuesOf p) f a b i j o w
-
-  pub second-found : secondBetween p f ≡ secondTextIn (valuesOf p) → (a b i j : ℕ) → f ≡ texts.At a b i j → take (j - i) (drop i p) ≡ secondText (valuesOf p)
-  second-found m a b i j o = second-between p (valuesOf p) f a b i j o m
-
--- a field of a part that was named u
-pub in-field : (d k : ℕ) (u v w : List ℕ) → u ≡ v → w ≡ field d k u → w ≡ field d k v
-in-field d k u v w e p = p ∙ ap (field d k) e
 
 -- pending_row
 pub row-made : (kmcid kmcid′ print print′ clock : List ℕ) (r : SlotRow) → kmcid ≡ kmcid′ → print ≡ print′ → r ≡ filledSlot Pending kmcid print clock → r ≡ filledSlot Pending kmcid′ print′ clock

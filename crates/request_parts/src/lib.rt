@@ -81,7 +81,7 @@ pub fn pending_row(p: &[u8], clock: &[u8]) -> SlotRow
 {
     let identity = records::field(only_text(p), 124, 1);
     slot_rows::filled_slot(
-        SlotState::Pending,
+        SlotState::Loading,
         records::field(identity, 58, 2),
         records::field(identity, 58, 4),
         clock,

@@ -1,13 +1,13 @@
 -- The tests of question 3 in turn, each with what the code knows where it answers as premises: S are the slot rows, R the register rows.
 use mathlib.Core.Path.{_≡_, refl, sym, ap, _∙_}
-use mathlib.Core.Bool.{Bool, true, false, not, _&&_}
+use mathlib.Core.Bool.{Bool, true, false, not}
 use mathlib.Core.List.{List, [], _∷_, map}
 use Prim.Native.Nat.{ℕ, zero, suc, _≤_}
 use native.Mathlib.Omega.{arith}
 use lib.ListN.{length, take, length-map}
 use lib.Seq.{length-take-le}
 use borrow.Author.Tests.{not-true, not-false}
-use Rattle.rows.specs.Lists.{everyRow, someRow, distinctRows}
+use Rattle.rows.specs.Lists.{everyRow, distinctRows}
 use Rattle.rows.specs.Slots.{isSlotSound, isSameSlot}
 use Rattle.rows.specs.Registers.{isRegisterSound, isSameKey}
 use Rattle.rows.specs.Index.{keptName, isSameName, isOwnedBy, keyNumber, isSameNumber}

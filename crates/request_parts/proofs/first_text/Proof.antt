@@ -1,6 +1,6 @@
 -- `request_parts::first_text` meets its contract, a law a return; the bounds lie within the payload.
-use Rattle.payloads.proofs.PayloadLaws.{twoBounds}
-use Rattle.request_parts.proofs.PartLaws.{both-absent, first-found}
+use Rattle.payloads.proofs.PayloadLaws.{twoBounds, first-between}
+use Rattle.request_parts.proofs.PartLaws.{both-absent}
 use borrow.Author.Needs.{needs}
 use Rattle.request_parts.proofs.first_text.Statement.{statement}
 use Rattle.request_parts.proofs.first_text.Tie as tie
@@ -19,4 +19,4 @@ first-text-spec =
     (λ c. search twoBounds)
     (λ c. search twoBounds)
     (λ c. search twoBounds)
-    (λ c. search first-found))
+    (λ c. search first-between))

@@ -1,5 +1,5 @@
 -- `request_parts::kmcid_text` meets its contract.
-use Rattle.request_parts.proofs.PartLaws.{in-field}
+use Rattle.records.proofs.ParseLaws.{in-field}
 use borrow.Author.Needs.{needs}
 use Rattle.request_parts.proofs.kmcid_text.Statement.{statement}
 use Rattle.request_parts.proofs.kmcid_text.Tie as tie

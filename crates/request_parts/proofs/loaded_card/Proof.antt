@@ -1,5 +1,6 @@
 -- `request_parts::loaded_card` meets its contract: the card is written from the request's own strings.
-use Rattle.request_parts.proofs.PartLaws.{in-field, card-room, card-made, card-measured}
+use Rattle.records.proofs.ParseLaws.{in-field}
+use Rattle.request_parts.proofs.PartLaws.{card-room, card-made, card-measured}
 use borrow.Author.Needs.{needs}
 use Rattle.request_parts.proofs.loaded_card.Statement.{statement}
 use Rattle.request_parts.proofs.loaded_card.Tie as tie

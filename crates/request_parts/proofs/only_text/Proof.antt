@@ -1,6 +1,7 @@
 -- `request_parts::only_text` meets its contract, a law a return; the bounds lie within the payload.
 use Rattle.cards.proofs.EntryLaws.{start-le, end-le}
-use Rattle.request_parts.proofs.PartLaws.{only-absent, only-found}
+use Rattle.payloads.proofs.PayloadLaws.{text-between}
+use Rattle.request_parts.proofs.PartLaws.{only-absent}
 use borrow.Author.Needs.{needs}
 use Rattle.request_parts.proofs.only_text.Statement.{statement}
 use Rattle.request_parts.proofs.only_text.Tie as tie
@@ -19,4 +20,4 @@ only-text-spec =
     (λ c. search start-le)
     (λ c. search start-le)
     (λ c. search end-le)
-    (λ c. search only-found))
+    (λ c. search text-between))

@@ -1,5 +1,6 @@
 -- `request_parts::pending_row` meets its contract.
-use Rattle.request_parts.proofs.PartLaws.{in-field, row-made}
+use Rattle.records.proofs.ParseLaws.{in-field}
+use Rattle.request_parts.proofs.PartLaws.{row-made}
 use borrow.Author.Needs.{needs}
 use Rattle.request_parts.proofs.pending_row.Statement.{statement}
 use Rattle.request_parts.proofs.pending_row.Tie as tie

@@ -1,6 +1,6 @@
 -- `request_parts::second_text` meets its contract, a law a return; the bounds lie within the payload.
-use Rattle.payloads.proofs.PayloadLaws.{twoBounds}
-use Rattle.request_parts.proofs.PartLaws.{both-absent, second-found}
+use Rattle.payloads.proofs.PayloadLaws.{twoBounds, second-between}
+use Rattle.request_parts.proofs.PartLaws.{both-absent}
 use borrow.Author.Needs.{needs}
 use Rattle.request_parts.proofs.second_text.Statement.{statement}
 use Rattle.request_parts.proofs.second_text.Tie as tie
@@ -19,4 +19,4 @@ second-text-spec =
     (λ c. search twoBounds)
     (λ c. search twoBounds)
     (λ c. search twoBounds)
-    (λ c. search second-found))
+    (λ c. search second-between))

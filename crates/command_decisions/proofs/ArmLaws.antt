@@ -1,0 +1,38 @@
+-- Each arm of the match on a command: the decision for its command, with the fact of which command it is.
+use mathlib.Core.Path.{_≡_}
+use mathlib.Core.Bool.{true, false}
+use mathlib.Core.List.{List}
+use Rattle.octets.proofs.Flags.{nope}
+use Rattle.fields.specs.Values.{Value}
+use Rattle.commands.specs.declared.Command.{Command}
+use Rattle.rows.specs.declared.SlotRow.{SlotRow}
+use Rattle.rows.specs.declared.RegisterRow.{RegisterRow}
+use Rattle.rows.specs.declared.Supplement.{Supplement}
+use Rattle.engine.specs.Requests.{isBuilt}
+use Rattle.engine.specs.Questions.{Call}
+use Rattle.engine.specs.Decisions.{decisionFor}
+use Rattle.engine.specs.declared.Decision.{Decision}
+
+-- by what the command is asked about
+module _ (c o : Command) (e : c ≡ o) (vs : List Value) (d : Decision) where
+  pub arm-fields : ((k : Call) → d ≡ decisionFor k o vs) → (k : Call) → d ≡ decisionFor k c vs
+  arm-fields all k = rw e (all k)
+
+  pub arm-slots : (l : List SlotRow) → ((k : Call) → k .slots ≡ l → d ≡ decisionFor k o vs) → (k : Call) → k .slots ≡ l → d ≡ decisionFor k c vs
+  arm-slots l all k h = rw e (all k h)
+
+  pub arm-registers : (l : List RegisterRow) → ((k : Call) → k .registers ≡ l → d ≡ decisionFor k o vs) → (k : Call) → k .registers ≡ l → d ≡ decisionFor k c vs
+  arm-registers l all k h = rw e (all k h)
+
+  pub arm-session : (l : List SlotRow) (x : Supplement) → ((k : Call) → k .slots ≡ l → k .supplement ≡ x → d ≡ decisionFor k o vs) → (k : Call) → k .slots ≡ l → k .supplement ≡ x → d ≡ decisionFor k c vs
+  arm-session l x all k h g = rw e (all k h g)
+
+  pub arm-load : (l : List SlotRow) (r : List RegisterRow) (x : Supplement) → ((k : Call) → k .slots ≡ l → k .registers ≡ r → k .supplement ≡ x → d ≡ decisionFor k o vs)
+      → (k : Call) → k .slots ≡ l → k .registers ≡ r → k .supplement ≡ x → d ≡ decisionFor k c vs
+  arm-load l r x all k h i g = rw e (all k h i g)
+
+pub ruleset arms = (arm-fields, arm-slots, arm-registers, arm-session, arm-load)
+
+-- a command that is not built does not come so far
+pub no-arm : (c o : Command) → c ≡ o → isBuilt c ≡ true → isBuilt o ≡ false → (k : Call) (vs : List Value) (d : Decision) → d ≡ decisionFor k c vs
+no-arm c o e p q k vs d = nope (cc)

@@ -1,0 +1,5 @@
+pub mod Known
+pub mod Flat
+pub mod Asking
+pub mod DecideLaws
+pub mod ArmLaws

@@ -1,0 +1,14 @@
+-- `record_tests::has_session` meets its contract, a law a return.
+use Rattle.record_tests.proofs.WordLaws.{session-pending, session-loading}
+use borrow.Author.Needs.{needs}
+use Rattle.record_tests.proofs.has_session.Statement.{statement}
+use Rattle.record_tests.proofs.has_session.Tie as tie
+
+pub has-session-spec : {M : Type 1} → statement M
+has-session-spec =
+    tie.close
+    (tie.spec
+    (λ c κs. search needs)
+    (λ c. search session-pending)
+    (λ c κs. search needs)
+    (λ c. search session-loading))

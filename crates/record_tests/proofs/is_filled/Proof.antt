@@ -1,0 +1,16 @@
+-- `record_tests::is_filled` meets its contract, a law a return.
+use Rattle.record_tests.proofs.WordLaws.{filled-zero, filled-beyond, filled-row}
+use borrow.Author.Needs.{needs}
+use Rattle.record_tests.proofs.is_filled.Statement.{statement}
+use Rattle.record_tests.proofs.is_filled.Tie as tie
+
+pub is-filled-spec : {M : Type 1} → statement M
+is-filled-spec =
+    tie.close
+    (tie.spec
+    (λ c. search filled-zero)
+    (λ c. search (filled-beyond, needs))
+    (λ c. search needs)
+    (λ c. search needs)
+    (λ c κs. search needs)
+    (λ c. search (filled-row, needs)))
