@@ -65,8 +65,8 @@ pub fn find(card: &[u8], name: u32) -> Found
 pub fn value<'a>(card: &'a [u8], name: u32) -> &'a [u8]
     ensures { λ v. ⌜ now v ≡ orElse (valueOf name (now (card .entry))) [] ⌝ }
 {
-    let f = find(card, name);
-    let Found::At { start, end } = f else {
+    let found = find(card, name);
+    let Found::At { start, end } = found else {
         return &card[0..0];
     };
     &card[start..end]

@@ -21,7 +21,8 @@ use Rattle.engine.specs.Requests.{areFieldsOf, firstText}
 use Rattle.engine.specs.declared.Refusal.{Refusal}
 use Rattle.engine.specs.declared.Decision.{Decision}
 use Rattle.engine.specs.declared.Decision.the-variants.{Refuse, Reset, Pend, Open, Load, Finish, Delete, Clear}
-use Rattle.changes.specs.Changes.{pendingRow, cardOf, tablesFor, CanChange}
+use Rattle.request_parts.specs.Parts.{pendingRow, cardOf}
+use Rattle.changes.specs.Changes.{tablesFor, CanChange}
 
 -- loaded_row
 pub row-filled : (card : List ℕ) (c : List ℕ) → c ≡ inRow card → record { card = c } ≡ filledRegister card
@@ -111,7 +112,7 @@ module _ (d : Decision) (t : Tables) (x : Supplement) (vs : List Value) where
   reset-made e l p = rw (e, p) refl
 
   module _ (k : ℕ) where
-    pub pend-made : d ≡ Pend k → (r : SlotRow) → r ≡ pendingRow x vs → tables t (set (t .slots) k r) (t .registers) ≡ tablesFor d t x vs
+    pub pend-made : d ≡ Pend k → (r : SlotRow) → r ≡ pendingRow (x .clock) vs → tables t (set (t .slots) k r) (t .registers) ≡ tablesFor d t x vs
     pend-made e r p = rw (e, p) refl
 
     pub load-made : d ≡ Load k → (r : RegisterRow) → r ≡ filledRegister (cardOf x vs) → tables t (t .slots) (set (t .registers) k r) ≡ tablesFor d t x vs

@@ -5,33 +5,24 @@ use mathlib.Core.Bool.{true}
 use mathlib.Core.List.{List}
 use lib.ListN.{length, getD, set}
 use Rattle.fields.specs.Values.{Value}
-use Rattle.identities.specs.Identities.{nameIn, fingerprintIn}
 use Rattle.commands.specs.declared.Command.the-variants.{KL, KF}
 use Rattle.rows.specs.Lists.{mapped}
-use Rattle.rows.specs.Slots.{freeSlot, filledSlot, movedSlot, resetSlot}
+use Rattle.rows.specs.Slots.{freeSlot, movedSlot, resetSlot}
 use Rattle.rows.specs.Registers.{freeRegister, filledRegister, withoutSlot}
 use Rattle.rows.specs.declared.SlotRow.{SlotRow}
 use Rattle.rows.specs.declared.RegisterRow.{RegisterRow}
 use Rattle.rows.specs.declared.Supplement.{Supplement}
 use Rattle.rows.specs.declared.Tables.{Tables}
-use Rattle.rows.specs.declared.SlotState.the-variants.{Pending, Loading, Idle}
-use Rattle.engine.specs.Requests.{areFieldsOf, firstText, secondText, kmcIdentityIn, cardIn}
-use Rattle.engine.specs.Answers.{loadedCard}
+use Rattle.rows.specs.declared.SlotState.the-variants.{Loading, Idle}
+use Rattle.engine.specs.Requests.{areFieldsOf, firstText}
+use Rattle.request_parts.specs.Parts.{pendingRow, cardOf}
 use Rattle.engine.specs.declared.Decision.{Decision}
 use Rattle.engine.specs.declared.Decision.the-variants.{Refuse, Reset, Pend, Open, Load, Finish, Delete, Clear}
-
--- the row that SM?KC makes of its record
-abbrev pub pendingRow : Supplement → List Value → SlotRow
-pendingRow x vs = filledSlot Pending (nameIn (kmcIdentityIn (firstText vs))) (fingerprintIn (kmcIdentityIn (firstText vs))) (x .clock)
-
--- the card that SM?KL stores
-abbrev pub cardOf : Supplement → List Value → List ℕ
-cardOf x vs = loadedCard (cardIn (secondText vs)) (x .check) (firstText vs)
 
 abbrev pub slotsAfter : Decision → ℕ → List SlotRow → Supplement → List Value → List SlotRow
 slotsAfter (Refuse r) n l x vs = l
 slotsAfter Reset n l x vs = mapped n resetSlot l
-slotsAfter (Pend k) n l x vs = set l k (pendingRow x vs)
+slotsAfter (Pend k) n l x vs = set l k (pendingRow (x .clock) vs)
 slotsAfter (Open k) n l x vs = set l k (movedSlot Loading (getD l k freeSlot))
 slotsAfter (Load k) n l x vs = l
 slotsAfter (Finish k) n l x vs = set l k (movedSlot Idle (getD l k freeSlot))

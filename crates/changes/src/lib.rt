@@ -12,7 +12,8 @@ ghost use Rattle.fields.specs.Values.{valuesOf};
 ghost use Rattle.commands.specs.declared.Command.the-variants.{KL};
 ghost use Rattle.rows.specs.Registers.{filledRegister};
 ghost use Rattle.engine.specs.Requests.{areFieldsOf};
-ghost use Rattle.changes.specs.Changes.{cardOf, tablesFor, CanChange};
+ghost use Rattle.request_parts.specs.Parts.{cardOf};
+ghost use Rattle.changes.specs.Changes.{tablesFor, CanChange};
 
 // The row that SM?KL fills.
 fn loaded_row(p: &[u8], x: Supplement) -> RegisterRow

@@ -102,7 +102,7 @@ fn decide_open(slots: [SlotRow; 8], n: usize, x: Supplement, payload: &[u8]) -> 
         return Decision::Refuse(Refusal::UnknownSlot);
     };
     let row = slots[k];
-    if !slot_rows::has_state(row, SlotState::Pending) {
+    if !slot_tests::has_state(row, SlotState::Pending) {
         return Decision::Refuse(Refusal::WrongState);
     }
     decide_response(k, row, x, r)
@@ -157,7 +157,7 @@ fn decide_load(
         return Decision::Refuse(Refusal::UnknownSlot);
     };
     let row = slots[k];
-    if !slot_rows::has_state(row, SlotState::Loading) {
+    if !slot_tests::has_state(row, SlotState::Loading) {
         return Decision::Refuse(Refusal::WrongState);
     }
     decide_store(registers, m, x, r)

@@ -35,10 +35,11 @@ use Rattle.engine.specs.declared.Decision.the-variants.{Refuse, Reset, Pend, Op
 use Rattle.engine.proofs.DecisionLaws.{commandFor, isRefuse, carried, refused-first}
 use Rattle.engine.proofs.RefusalLaws.{isSilent, isOwn, Group, of-tables, of-message, of-later, refusal-group, tables-silent, message-general}
 use Rattle.engine.proofs.Steps.{Yes, yes-of, is-short}
-use Rattle.replies.specs.Tellings.{CanTell}
-use Rattle.replies.proofs.ReplyLaws.{can-tell}
-use Rattle.responding.specs.Responding.{kmcidOf, HasRoom, CanRespond}
-use Rattle.changes.specs.Changes.{cardOf, CanChange}
+use Rattle.refusals.specs.Tellings.{CanTell}
+use Rattle.refusals.proofs.TellingLaws.{can-tell}
+use Rattle.request_parts.specs.Parts.{kmcidOf, cardOf}
+use Rattle.responding.specs.Responding.{HasRoom, CanRespond}
+use Rattle.changes.specs.Changes.{CanChange}
 use Rattle.core.proofs.DoneBy.{load-place, pend-place, open-place, finish-place, delete-place, clear-place}
 use Rattle.core.proofs.Asked.{Asked, asked-of, slot-below, session-below, card-below, filled-below}
 

@@ -126,10 +126,10 @@ pub fn store_place(registers: [RegisterRow; 32], m: usize, r: &[u8]) -> Place
 pub fn has_session(r: SlotRow) -> bool
     ensures { λ b. ⌜ b ≡ (hasState Pending r || hasState Loading r) ⌝ }
 {
-    if slot_rows::has_state(r, SlotState::Pending) {
+    if slot_tests::has_state(r, SlotState::Pending) {
         return true;
     }
-    slot_rows::has_state(r, SlotState::Loading)
+    slot_tests::has_state(r, SlotState::Loading)
 }
 
 // Question 18: whether register n, counted from 1, is filled.

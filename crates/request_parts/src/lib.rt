@@ -10,13 +10,10 @@ ghost use mathlib.Core.Bool.{true};
 ghost use Prim.Native.Nat.{_≤_};
 ghost use lib.ListN.{length};
 ghost use Rattle.fields.specs.Values.{valuesOf};
-ghost use Rattle.identities.specs.Identities.{nameIn, fingerprintIn};
 ghost use Rattle.stored_cards.specs.Stored.{inRow};
 ghost use Rattle.commands.specs.declared.Command.the-variants.{KF, KL};
-ghost use Rattle.rows.specs.Slots.{filledSlot};
-ghost use Rattle.rows.specs.declared.SlotState.the-variants.{Pending};
-ghost use Rattle.engine.specs.Requests.{areFieldsOf, firstText, secondText, kmcIdentityIn, cardIn};
-ghost use Rattle.engine.specs.Answers.{loadedCard};
+ghost use Rattle.engine.specs.Requests.{areFieldsOf, firstText, secondText};
+ghost use Rattle.request_parts.specs.Parts.{kmcidOf, pendingRow, cardOf};
 
 // The only string.
 pub fn only_text<'a>(p: &'a [u8]) -> &'a [u8]
@@ -69,7 +66,7 @@ pub fn second_text<'a>(p: &'a [u8]) -> &'a [u8]
 // The KMCID in the KMC identity of the only string, a record.
 pub fn kmcid_text<'a>(p: &'a [u8]) -> &'a [u8]
     requires { ⌜ areFieldsOf KF (valuesOf (now p)) ≡ true ⌝ }
-    ensures { λ s. ⌜ now s ≡ nameIn (kmcIdentityIn (firstText (valuesOf (now (p .entry))))) ⌝ }
+    ensures { λ s. ⌜ now s ≡ kmcidOf (valuesOf (now (p .entry))) ⌝ }
 {
     records::field(records::field(only_text(p), 124, 1), 58, 2)
 }
@@ -77,11 +74,11 @@ pub fn kmcid_text<'a>(p: &'a [u8]) -> &'a [u8]
 // The row that SM?KC makes: PENDING, with the record's KMCID and fingerprint and the clock as TVP.
 pub fn pending_row(p: &[u8], clock: &[u8]) -> SlotRow
     requires { ⌜ areFieldsOf KF (valuesOf (now p)) ≡ true ⌝ }
-    ensures { λ r. ⌜ r ≡ filledSlot Pending (nameIn (kmcIdentityIn (firstText (valuesOf (now (p .entry)))))) (fingerprintIn (kmcIdentityIn (firstText (valuesOf (now (p .entry)))))) (now (clock .entry)) ⌝ }
+    ensures { λ r. ⌜ r ≡ pendingRow (now (clock .entry)) (valuesOf (now (p .entry))) ⌝ }
 {
     let identity = records::field(only_text(p), 124, 1);
     slot_rows::filled_slot(
-        SlotState::Loading,
+        SlotState::Pending,
         records::field(identity, 58, 2),
         records::field(identity, 58, 4),
         clock,
@@ -90,9 +87,9 @@ pub fn pending_row(p: &[u8], clock: &[u8]) -> SlotRow
 
 // The card that SM?KL stores.
 pub fn loaded_card(p: &[u8], x: Supplement) -> Stored
-    requires { ⌜ (areFieldsOf KL (valuesOf (now p)) ≡ true) × (length (loadedCard (cardIn (secondText (valuesOf (now p)))) (x .check) (firstText (valuesOf (now p)))) ≤ 256) ⌝ }
-    ensures { λ r. ⌜ r .card ≡ inRow (loadedCard (cardIn (secondText (valuesOf (now (p .entry))))) (x .check) (firstText (valuesOf (now (p .entry))))) ⌝ }
-    ensures measured { λ r. ⌜ r .length ≡ length (loadedCard (cardIn (secondText (valuesOf (now (p .entry))))) (x .check) (firstText (valuesOf (now (p .entry))))) ⌝ }
+    requires { ⌜ (areFieldsOf KL (valuesOf (now p)) ≡ true) × (length (cardOf x (valuesOf (now p))) ≤ 256) ⌝ }
+    ensures { λ r. ⌜ r .card ≡ inRow (cardOf x (valuesOf (now (p .entry)))) ⌝ }
+    ensures measured { λ r. ⌜ r .length ≡ length (cardOf x (valuesOf (now (p .entry)))) ⌝ }
 {
     let card = records::field(second_text(p), 124, 2);
     stored_cards::write_card(card, b"0", &x.check, first_text(p), b"0")

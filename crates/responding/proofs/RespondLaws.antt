@@ -15,7 +15,7 @@ use Rattle.stored_cards.specs.Stored.{inRow}
 use Rattle.commands.specs.declared.Command.{Command}
 use Rattle.commands.specs.declared.Command.the-variants.{KF, KL}
 use Rattle.rows.specs.declared.Supplement.{Supplement}
-use Rattle.replies.specs.Tellings.{CanTell}
+use Rattle.refusals.specs.Tellings.{CanTell}
 use Rattle.replies.proofs.ReplyLaws.{header-five}
 use Rattle.engine.specs.Requests.{fieldsIn, areFieldsOf}
 use Rattle.engine.specs.Refusals.{refusal}
@@ -24,7 +24,8 @@ use Rattle.engine.specs.declared.Decision.{Decision}
 use Rattle.engine.specs.declared.Decision.the-variants.{Refuse, Reset, Pend, Open, Load, Finish, Delete, Clear}
 use Rattle.engine.specs.declared.Refusal.{Refusal}
 use Rattle.engine.specs.declared.Outcome.{Outcome}
-use Rattle.responding.specs.Responding.{outcomeFor, kmcidOf, cardOf, responseFor, HasRoom, CanRespond}
+use Rattle.request_parts.specs.Parts.{kmcidOf, cardOf}
+use Rattle.responding.specs.Responding.{outcomeFor, responseFor, HasRoom, CanRespond}
 
 -- an arm of a match: d is the decision e
 module _ (d e : Decision) (p : d ≡ e) where

@@ -7,19 +7,19 @@ use lib.ListN.{length}
 use Rattle.fields.specs.Values.{Value, number, string}
 use Rattle.frames.specs.Frames.{headerOf}
 use Rattle.responses.specs.Responses.{responseBytes}
-use Rattle.identities.specs.Identities.{nameIn}
 use Rattle.commands.specs.declared.Command.the-variants.{KL, KF}
 use Rattle.rows.specs.Supplements.{loadRequest}
 use Rattle.rows.specs.declared.Supplement.{Supplement}
 use Rattle.rows.specs.declared.SlotState.the-variants.{Free, Pending, Loading, Idle}
 use Rattle.engine.specs.Refusals.{refusal}
-use Rattle.engine.specs.Requests.{fieldsIn, areFieldsOf, firstText, secondText, kmcIdentityIn, cardIn}
-use Rattle.engine.specs.Answers.{accepted, loadedCard, refusalBytes}
+use Rattle.engine.specs.Requests.{fieldsIn, areFieldsOf}
+use Rattle.engine.specs.Answers.{accepted, refusalBytes}
+use Rattle.request_parts.specs.Parts.{kmcidOf, cardOf}
 use Rattle.engine.specs.declared.Decision.{Decision}
 use Rattle.engine.specs.declared.Decision.the-variants.{Refuse, Reset, Pend, Open, Load, Finish, Delete, Clear}
 use Rattle.engine.specs.declared.Outcome.{Outcome}
 use Rattle.engine.specs.declared.Outcome.the-variants.{Accepted, Done, Refused}
-use Rattle.replies.specs.Tellings.{CanTell}
+use Rattle.refusals.specs.Tellings.{CanTell}
 
 abbrev pub outcomeFor : Decision → Outcome
 outcomeFor (Refuse r) = Refused r
@@ -30,14 +30,6 @@ outcomeFor (Load k) = Accepted Loading
 outcomeFor (Finish k) = Accepted Idle
 outcomeFor (Delete k) = Accepted Free
 outcomeFor (Clear k) = Done
-
--- the KMCID that the record of SM?KC or SM?KR names
-abbrev pub kmcidOf : List Value → List ℕ
-kmcidOf vs = nameIn (kmcIdentityIn (firstText vs))
-
--- the card that SM?KL stores
-abbrev pub cardOf : Supplement → List Value → List ℕ
-cardOf x vs = loadedCard (cardIn (secondText vs)) (x .check) (firstText vs)
 
 -- the response to the request q
 abbrev pub responseFor : Decision → Supplement → List ℕ → List ℕ

@@ -16,7 +16,8 @@ ghost use Rattle.commands.specs.declared.Command.the-variants.{KF, KL};
 ghost use Rattle.rows.specs.Supplements.{loadRequest};
 ghost use Rattle.engine.specs.Requests.{fieldsIn, areFieldsOf};
 ghost use Rattle.engine.specs.Answers.{accepted};
-ghost use Rattle.responding.specs.Responding.{outcomeFor, kmcidOf, cardOf, responseFor, HasRoom, CanRespond};
+ghost use Rattle.request_parts.specs.Parts.{kmcidOf, cardOf};
+ghost use Rattle.responding.specs.Responding.{outcomeFor, responseFor, HasRoom, CanRespond};
 
 // The outcome of a decision.
 pub fn outcome(d: Decision) -> Outcome
@@ -90,7 +91,7 @@ pub fn respond(d: Decision, x: Supplement, request: &[u8], response: &mut [u8]) 
     ensures fits { λ n. ⌜ n ≤ length (now (response .entry)) ⌝ }
 {
     match d {
-        Decision::Refuse(r) => replies::refuse(response, request, r),
+        Decision::Refuse(r) => refusals::refuse(response, request, r),
         Decision::Reset => respond_plainly(request, response),
         Decision::Pend(_) => respond_pending(x, request, response),
         Decision::Open(_) => respond_open(request, response),

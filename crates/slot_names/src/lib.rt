@@ -10,7 +10,7 @@ pub fn is_called(name: &[u8], s: &[u8]) -> bool
     if s.len() == 0 {
         return false;
     }
-    octets::same_bytes(slot_rows::trimmed(name), s)
+    octets::same_bytes(slot_tests::trimmed(name), s)
 }
 
 // Whether s is one of the names.
@@ -33,7 +33,7 @@ pub fn are_names_distinct(names: &[[u8; 40]]) -> bool
 {
     let mut i = 0;
     while i < names.len() {
-        let a = slot_rows::trimmed(&names[i]);
+        let a = slot_tests::trimmed(&names[i]);
         let mut j = i + 1;
         while j < names.len() {
             if is_called(&names[j], a) {

@@ -21,7 +21,7 @@ pub fn slot_place(slots: [SlotRow; 8], n: usize, name: &[u8]) -> Place
     let mut i = 0;
     while i < n {
         let r = slots[i];
-        if slot_rows::is_named(r, name) {
+        if slot_tests::is_named(r, name) {
             return Place::At(i);
         }
         i += 1;
@@ -38,7 +38,7 @@ pub fn free_place(slots: [SlotRow; 8], n: usize) -> Place
     let mut k = 0;
     while k < n {
         let r = slots[k];
-        if slot_rows::has_state(r, SlotState::Free) {
+        if slot_tests::has_state(r, SlotState::Free) {
             return Place::At(k);
         }
         k += 1;
@@ -54,7 +54,7 @@ pub fn are_slots_sound(slots: [SlotRow; 8], n: usize) -> bool
     let mut i = 0;
     while i < n {
         let r = slots[i];
-        if !slot_rows::is_slot_sound(r) {
+        if !slot_tests::is_slot_sound(r) {
             return false;
         }
         i += 1;

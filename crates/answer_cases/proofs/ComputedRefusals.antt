@@ -1,0 +1,73 @@
+-- The two cards in whole requests, over rows whose slot is LOADING: the answer is what the definition computes.
+use mathlib.Core.Path.{_≡_, refl}
+use mathlib.Core.List.{List, [], _∷_, map}
+use Prim.Native.Nat.{ℕ}
+use Rattle.crc.specs.Crc.{crcBit, crcEight, crcByte}
+use Rattle.hexadecimal.specs.Hex.{hexDigit, hexValue, fromDigits, readHex4}
+use Rattle.checksum.specs.Checksum.{sumDigits, endsInSum}
+use Rattle.text.specs.Classes.{isAlphanumeric, areAll}
+use Rattle.text.specs.Identifiers.{isIdentifier}
+use Rattle.decimals.specs.Decimals.{isUnpadded, isNumber}
+use Rattle.calendar.specs.Calendar.{daysIn, isDate, isTime}
+use Rattle.timestamp.specs.Timestamps.{momentOf, timestampOf, isTimestamp}
+use Rattle.fields.specs.Values.{typed, valuesOf, contentBytes}
+use Rattle.frames.specs.Frames.{endsInReturn, isWhole, isChecked, textOf, headerOf, payloadOf, ending, framed, answered, headBytes}
+use Rattle.commands.specs.Commands.{headers, commandOf}
+use Rattle.responses.specs.Responses.{responseBytes}
+use Rattle.records.specs.Records.{bodyOf, field, isRecord}
+use Rattle.forms.specs.Forms.{isAlgorithm}
+use Rattle.attributes.specs.Table.{table}
+use Rattle.cards.specs.Entries.{nameOf, valueOf}
+use Rattle.incoming_cards.specs.Incoming.{fits, isCardFrom, isMet, isIncoming}
+use Rattle.identities.specs.Identities.{identityInForm}
+use Rattle.key_records.specs.KeyRecords.{keyInForm}
+use Rattle.rows.specs.Lists.{padded, trimmed}
+use Rattle.rows.specs.Registers.{isVacant, attributeOf, isRegisterSound, isSameKey, freeRegister}
+use Rattle.rows.specs.Slots.{isZeroSlot, isNamed, isFilledSlot, isSlotSound, isSameSlot, freeSlot, filledSlot}
+use Rattle.rows.specs.Sound.{isOwned, areSound}
+use Rattle.rows.specs.Supplements.{isIdentityRight, isLoadRequestRight, isWellFormed}
+use Rattle.engine.specs.Requests.{fieldsIn, areFieldsOf, recordIn, cardIn}
+use Rattle.engine.specs.Questions.{areCounts, questions}
+use Rattle.engine.specs.Answers.{refused, answerOf}
+use Rattle.commands.specs.declared.Command.the-variants.{KL}
+use Rattle.engine.specs.Words.{Lent, callOf}
+use Rattle.engine.specs.declared.Refusal.the-variants.{BadForm}
+use Rattle.engine.specs.declared.Outcome.the-variants.{Refused}
+use Rattle.rows.specs.declared.SlotState.the-variants.{Loading}
+use Rattle.samples.specs.Samples.{samples}
+use Rattle.sample_run.specs.Run.{hand, a, printA, lent}
+use Rattle.answer_cases.proofs.CardRefused.{badCards}
+
+-- slot A is LOADING, one slot and both registers are free
+abbrev pub loading : Lent
+loading = lent (filledSlot Loading a printA []) freeSlot freeRegister
+
+-- SM?KLPA~PKEY.1|01|ACT20130716T151031Z;BDT20130716T151031Z;DKG04;KRN6;KEN255;KTC2;SGC0000758825;|02|BE8D~84A4
+abbrev pub unordered : List ℕ
+unordered = 83 ∷ 77 ∷ 63 ∷ 75 ∷ 76 ∷ 80 ∷ 65 ∷ 126 ∷ 80 ∷ 75 ∷ 69 ∷ 89 ∷ 46 ∷ 49 ∷ 124 ∷ 48 ∷ 49 ∷ 124 ∷ 65 ∷ 67 ∷ 84 ∷ 50 ∷ 48 ∷ 49 ∷ 51 ∷ 48 ∷ 55 ∷ 49 ∷ 54 ∷ 84 ∷ 49 ∷ 53 ∷ 49 ∷ 48 ∷ 51 ∷ 49 ∷ 90 ∷ 59 ∷ 66 ∷ 68 ∷ 84 ∷ 50 ∷ 48 ∷ 49 ∷ 51 ∷ 48 ∷ 55 ∷ 49 ∷ 54 ∷ 84 ∷ 49 ∷ 53 ∷ 49 ∷ 48 ∷ 51 ∷ 49 ∷ 90 ∷ 59 ∷ 68 ∷ 75 ∷ 71 ∷ 48 ∷ 52 ∷ 59 ∷ 75 ∷ 82 ∷ 78 ∷ 54 ∷ 59 ∷ 75 ∷ 69 ∷ 78 ∷ 50 ∷ 53 ∷ 53 ∷ 59 ∷ 75 ∷ 84 ∷ 67 ∷ 50 ∷ 59 ∷ 83 ∷ 71 ∷ 67 ∷ 48 ∷ 48 ∷ 48 ∷ 48 ∷ 55 ∷ 53 ∷ 56 ∷ 56 ∷ 50 ∷ 53 ∷ 59 ∷ 124 ∷ 48 ∷ 50 ∷ 124 ∷ 66 ∷ 69 ∷ 56 ∷ 68 ∷ 126 ∷ 56 ∷ 52 ∷ 65 ∷ 52 ∷ 13 ∷ []
+
+-- SM?KLPA~PKEY.1|01|ACT20130716T151031Z;BDT20130716T151031Z;DKG04;KEN255;KRN0;KTC2;SGC0000758825;|02|9995~3806
+abbrev pub revisionZero : List ℕ
+revisionZero = 83 ∷ 77 ∷ 63 ∷ 75 ∷ 76 ∷ 80 ∷ 65 ∷ 126 ∷ 80 ∷ 75 ∷ 69 ∷ 89 ∷ 46 ∷ 49 ∷ 124 ∷ 48 ∷ 49 ∷ 124 ∷ 65 ∷ 67 ∷ 84 ∷ 50 ∷ 48 ∷ 49 ∷ 51 ∷ 48 ∷ 55 ∷ 49 ∷ 54 ∷ 84 ∷ 49 ∷ 53 ∷ 49 ∷ 48 ∷ 51 ∷ 49 ∷ 90 ∷ 59 ∷ 66 ∷ 68 ∷ 84 ∷ 50 ∷ 48 ∷ 49 ∷ 51 ∷ 48 ∷ 55 ∷ 49 ∷ 54 ∷ 84 ∷ 49 ∷ 53 ∷ 49 ∷ 48 ∷ 51 ∷ 49 ∷ 90 ∷ 59 ∷ 68 ∷ 75 ∷ 71 ∷ 48 ∷ 52 ∷ 59 ∷ 75 ∷ 69 ∷ 78 ∷ 50 ∷ 53 ∷ 53 ∷ 59 ∷ 75 ∷ 82 ∷ 78 ∷ 48 ∷ 59 ∷ 75 ∷ 84 ∷ 67 ∷ 50 ∷ 59 ∷ 83 ∷ 71 ∷ 67 ∷ 48 ∷ 48 ∷ 48 ∷ 48 ∷ 55 ∷ 53 ∷ 56 ∷ 56 ∷ 50 ∷ 53 ∷ 59 ∷ 124 ∷ 48 ∷ 50 ∷ 124 ∷ 57 ∷ 57 ∷ 57 ∷ 53 ∷ 126 ∷ 51 ∷ 56 ∷ 48 ∷ 54 ∷ 13 ∷ []
+
+abbrev pub requests : List (List ℕ)
+requests = unordered ∷ revisionZero ∷ []
+
+-- their cards are those of the samples
+pub sample-cards : map (λ (q : List ℕ). cardIn (recordIn KL (fieldsIn q))) requests ≡ badCards samples
+unfolding areAll typed valuesOf textOf payloadOf field recordIn samples
+sample-cards = refl
+
+-- SM!KLEEPKM.10~4705
+abbrev pub refusal10 : List ℕ
+refusal10 = 83 ∷ 77 ∷ 33 ∷ 75 ∷ 76 ∷ 69 ∷ 69 ∷ 80 ∷ 75 ∷ 77 ∷ 46 ∷ 49 ∷ 48 ∷ 126 ∷ 52 ∷ 55 ∷ 48 ∷ 53 ∷ 13 ∷ []
+
+-- each is answered so, and every row stays
+abbrev pub EachAnswered : List (List ℕ) → Type 0
+EachAnswered [] = Unit {0}
+EachAnswered (q ∷ qs) =
+    (answerOf (callOf loading (hand q)) ≡ record { outcome = Refused BadForm; response = refusal10; slots = loading .slots; registers = loading .registers }) × EachAnswered qs
+
+pub each-answered : EachAnswered requests
+unfolding crcBit crcEight crcByte hexDigit hexValue fromDigits readHex4 sumDigits endsInSum isAlphanumeric areAll isIdentifier isUnpadded isNumber daysIn isDate isTime momentOf timestampOf isTimestamp typed valuesOf contentBytes endsInReturn isWhole isChecked textOf headerOf payloadOf ending framed answered headBytes headers commandOf responseBytes bodyOf field isRecord isAlgorithm table nameOf valueOf fits isCardFrom isMet isIncoming identityInForm keyInForm padded trimmed isVacant attributeOf isRegisterSound isSameKey freeRegister isZeroSlot isNamed isFilledSlot isSlotSound isSameSlot freeSlot filledSlot isOwned areSound isIdentityRight isLoadRequestRight isWellFormed areFieldsOf recordIn areCounts questions refused answerOf
+each-answered = (refl, (refl, tt))

@@ -1,0 +1,20 @@
+-- `refusals::refuse` meets its contract: silence, GL!ER, or the header of the request, by the number of the refusal.
+use Rattle.refusals.proofs.TellingLaws.{silently, general-fits, generally, own-long, own-fits, own-told}
+use borrow.Author.Needs.{needs}
+use Rattle.refusals.proofs.refuse.Statement.{statement}
+use Rattle.refusals.proofs.refuse.Tie as tie
+
+pub refuse-spec : {M : Type 1} → statement M
+refuse-spec =
+    tie.close
+    (tie.spec
+    (λ c κs. search needs)
+    (λ c. (search silently, search needs))
+    (λ c. search needs)
+    (λ c κs. (search needs, search general-fits))
+    (λ c. search needs)
+    (λ c. (search generally, search needs))
+    (λ c κs. search needs)
+    (λ c κs. (search own-long, search own-fits))
+    (λ c. search needs)
+    (λ c. (search own-told, search needs)))

@@ -1,0 +1,23 @@
+-- What a command takes out of the fields vs of its request, and makes of it with the supplement x (document 01, Slots and registers).
+use Prim.Native.Nat.{ℕ}
+use mathlib.Core.List.{List}
+use Rattle.fields.specs.Values.{Value}
+use Rattle.identities.specs.Identities.{nameIn, fingerprintIn}
+use Rattle.rows.specs.Slots.{filledSlot}
+use Rattle.rows.specs.declared.SlotRow.{SlotRow}
+use Rattle.rows.specs.declared.SlotState.the-variants.{Pending}
+use Rattle.rows.specs.declared.Supplement.{Supplement}
+use Rattle.engine.specs.Requests.{firstText, secondText, kmcIdentityIn, cardIn}
+use Rattle.engine.specs.Answers.{loadedCard}
+
+-- the KMCID that the record of SM?KC or SM?KR names
+abbrev pub kmcidOf : List Value → List ℕ
+kmcidOf vs = nameIn (kmcIdentityIn (firstText vs))
+
+-- the row that SM?KC makes of its record, with the clock as TVP
+abbrev pub pendingRow : List ℕ → List Value → SlotRow
+pendingRow clock vs = filledSlot Pending (kmcidOf vs) (fingerprintIn (kmcIdentityIn (firstText vs))) clock
+
+-- the card that SM?KL stores
+abbrev pub cardOf : Supplement → List Value → List ℕ
+cardOf x vs = loadedCard (cardIn (secondText vs)) (x .check) (firstText vs)

@@ -1,0 +1,15 @@
+-- `slot_tests::is_named` meets its contract, a law a return.
+use Rattle.slot_tests.proofs.TestLaws.{namedCases}
+use borrow.Author.Needs.{needs}
+use Rattle.slot_tests.proofs.is_named.Statement.{statement}
+use Rattle.slot_tests.proofs.is_named.Tie as tie
+
+pub is-named-spec : {M : Type 1} → statement M
+is-named-spec =
+    tie.close
+    (tie.spec
+    (λ c κs. search needs)
+    (λ c. search namedCases)
+    (λ c κs. search needs)
+    (λ c κs. search needs)
+    (λ c. search namedCases))
