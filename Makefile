@@ -1,5 +1,5 @@
 # The commands that README.md names.
-.PHONY: test run format
+.PHONY: test run compare format
 
 # Proves every crate from nothing, tries the must-fail edits, runs the programs and the comparison tests.
 test:
@@ -11,3 +11,7 @@ run:
 
 format:
 	@rt fmt
+
+# Compares the engine with the second implementation in reference/: make compare N=calls SEED=seed.
+compare:
+	@bash tools/compare/engine.sh $(N) $(SEED)

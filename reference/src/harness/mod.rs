@@ -1,0 +1,353 @@
+//! Compares an engine under test with `handle`, call by call: outcome, state,
+//! length, every row and every byte of the response buffer.
+
+pub mod edits;
+pub mod generator;
+pub mod history;
+pub mod parts;
+pub mod requests;
+pub mod scenes;
+pub mod tables;
+pub mod world;
+
+use crate::{handle, Command, RegisterRow, SlotRow, Supplement};
+use generator::Generator;
+use std::fmt;
+use tables::Tables;
+
+/// The state value of an answer without one.
+pub const NO_STATE: u8 = 255;
+
+/// The engine under test. The slices have places for 8 and 32 rows; the true
+/// counts stand beside them and may be out of range (0 to 9, 0 to 33).
+pub trait Engine {
+    /// Outcome, state left (255 for none), length of the response.
+    #[allow(clippy::too_many_arguments)]
+    fn handle(
+        &mut self,
+        slots: &mut [SlotRow],
+        registers: &mut [RegisterRow],
+        slot_count: usize,
+        register_count: usize,
+        supplement: &Supplement,
+        request: &[u8],
+        response: &mut [u8],
+    ) -> (u8, u8, usize);
+
+    /// The commands that the engine answers; the other headers are refused with 7.
+    fn built(&self) -> Vec<Command> {
+        Command::SEVEN.to_vec()
+    }
+}
+
+/// `handle` as an engine under test.
+pub struct Reference {
+    pub built: Vec<Command>,
+}
+
+impl Engine for Reference {
+    fn handle(
+        &mut self,
+        slots: &mut [SlotRow],
+        registers: &mut [RegisterRow],
+        slot_count: usize,
+        register_count: usize,
+        supplement: &Supplement,
+        request: &[u8],
+        response: &mut [u8],
+    ) -> (u8, u8, usize) {
+        // A count past the places is out of range.
+        let (Some(slots), Some(registers)) = (slots.get_mut(..slot_count), registers.get_mut(..register_count)) else {
+            return (1, NO_STATE, 0);
+        };
+        let answer = handle(&self.built, slots, registers, supplement, request, response);
+        (answer.outcome, answer.state.unwrap_or(NO_STATE), answer.length)
+    }
+
+    fn built(&self) -> Vec<Command> {
+        self.built.clone()
+    }
+}
+
+/// How often each outcome came up.
+#[derive(Clone, Debug)]
+pub struct Counts {
+    pub seed: u64,
+    pub built: Vec<Command>,
+    /// By outcome: 0 accepted, 1 to 21 refused.
+    pub outcomes: [u64; 22],
+    /// Acceptances, in the sequence of `Command::ALL`.
+    pub accepted: [u64; 10],
+    /// Calls of each part of the run.
+    pub parts: Vec<(&'static str, u64)>,
+    /// Histories from empty tables on which demand 3 was checked after every call.
+    pub histories: u64,
+    /// Single-byte edits made, and how many there are.
+    pub edits: (u64, u64),
+}
+
+impl Counts {
+    pub fn calls(&self) -> u64 {
+        self.outcomes.iter().sum()
+    }
+
+    /// What never came up.
+    pub fn missing(&self) -> Vec<String> {
+        let refusals = (1..=21).filter(|&number| self.outcomes[number] == 0).map(|number| format!("refusal {number}"));
+        let commands = Command::ALL
+            .iter()
+            .enumerate()
+            .filter(|(place, command)| self.built.contains(command) && self.accepted[*place] == 0)
+            .map(|(_, command)| format!("acceptance of {}", String::from_utf8_lossy(command.header())));
+        refusals.chain(commands).collect()
+    }
+}
+
+impl fmt::Display for Counts {
+    fn fmt(&self, out: &mut fmt::Formatter) -> fmt::Result {
+        writeln!(out, "seed {}, {} calls, no difference", self.seed, self.calls())?;
+        for (name, calls) in &self.parts {
+            writeln!(out, "  {name:<12} {calls:>9}")?;
+        }
+        writeln!(out, "  single-byte edits: {} of {}", self.edits.0, self.edits.1)?;
+        writeln!(out, "  histories that demand 3 was checked on: {}", self.histories)?;
+        writeln!(out, "accepted {}", self.outcomes[0])?;
+        for (command, accepted) in Command::ALL.iter().zip(self.accepted) {
+            if self.built.contains(command) {
+                writeln!(out, "  {} {accepted:>9}", String::from_utf8_lossy(command.header()))?;
+            }
+        }
+        writeln!(out, "refused")?;
+        for (number, refused) in self.outcomes.iter().enumerate().skip(1) {
+            writeln!(out, "  {number:>5} {refused:>9}")?;
+        }
+        Ok(())
+    }
+}
+
+/// Longest buffer lent.
+pub const LONGEST_BUFFER: usize = 1100;
+/// Bytes after the lent buffer, which must keep their value too.
+const GUARD: usize = 64;
+
+/// Makes each call with both engines.
+pub struct Bench<'a> {
+    engine: &'a mut dyn Engine,
+    generator: Generator,
+    expected: [u8; LONGEST_BUFFER + GUARD],
+    got: [u8; LONGEST_BUFFER + GUARD],
+    length: usize,
+    pub counts: Counts,
+}
+
+impl<'a> Bench<'a> {
+    pub fn new(engine: &'a mut dyn Engine, seed: u64) -> Self {
+        let built = engine.built();
+        Bench {
+            engine,
+            generator: Generator::new(seed),
+            expected: [0; LONGEST_BUFFER + GUARD],
+            got: [0; LONGEST_BUFFER + GUARD],
+            length: 0,
+            counts: Counts {
+                seed,
+                built,
+                outcomes: [0; 22],
+                accepted: [0; 10],
+                parts: Vec::new(),
+                histories: 0,
+                edits: (0, 0),
+            },
+        }
+    }
+
+    pub fn built(&self) -> Vec<Command> {
+        self.counts.built.clone()
+    }
+
+    /// The calls from here on are counted under this name.
+    pub fn part(&mut self, name: &'static str) {
+        self.counts.parts.push((name, 0));
+    }
+
+    /// The response of the last call.
+    pub fn answer(&self) -> &[u8] {
+        &self.expected[..self.length]
+    }
+
+    /// Makes one call, compares all, and leaves the rows after it in `tables`.
+    /// The error is the call in hexadecimal.
+    pub fn call(
+        &mut self,
+        tables: &mut Tables,
+        supplement: &Supplement,
+        request: &[u8],
+        buffer: usize,
+    ) -> Result<u8, String> {
+        // In one call of four the buffer keeps the answer before.
+        if !self.generator.chance(25) {
+            let salt = self.generator.byte();
+            for (place, byte) in self.expected.iter_mut().enumerate() {
+                *byte = (place as u8).wrapping_mul(31) ^ salt;
+            }
+        }
+        self.got = self.expected;
+        let filling = self.expected;
+        let before = tables.clone();
+
+        let mut after = before.clone();
+        let answer = handle(
+            &self.counts.built,
+            &mut after.slots[..before.slot_count],
+            &mut after.registers[..before.register_count],
+            supplement,
+            request,
+            &mut self.expected[..buffer],
+        );
+        let expected = (answer.outcome, answer.state.unwrap_or(NO_STATE), answer.length);
+
+        let (slot_places, register_places) = (crate::rows::MOST_SLOTS, crate::rows::MOST_REGISTERS);
+        let got = self.engine.handle(
+            &mut tables.slots[..slot_places],
+            &mut tables.registers[..register_places],
+            before.slot_count,
+            before.register_count,
+            supplement,
+            request,
+            &mut self.got[..buffer],
+        );
+
+        let mut wrong = Vec::new();
+        if expected != got {
+            wrong.push(format!("outcome, state, length: expected {expected:?}, got {got:?}"));
+        }
+        if after.slots != tables.slots {
+            wrong.push("slot rows".to_string());
+        }
+        if after.registers != tables.registers {
+            wrong.push("register rows".to_string());
+        }
+        if self.expected != self.got {
+            wrong.push("response buffer".to_string());
+        }
+        if !wrong.is_empty() {
+            let mut text = format!(
+                "difference in call {} of seed {}: {}\n",
+                self.counts.calls() + 1,
+                self.counts.seed,
+                wrong.join("; ")
+            );
+            text += &describe(&before, supplement, request, buffer, &filling);
+            text += &format!("expected buffer {}\ngot buffer      {}\n", hex(&self.expected), hex(&self.got));
+            text += &format!("expected rows\n{}got rows\n{}", show_rows(&after), show_rows(tables));
+            return Err(text);
+        }
+
+        self.length = answer.length;
+        self.counts.outcomes[usize::from(answer.outcome)] += 1;
+        if let Some((_, calls)) = self.counts.parts.last_mut() {
+            *calls += 1;
+        }
+        if answer.outcome == 0 {
+            let place = Command::ALL.iter().position(|command| request.starts_with(command.header()));
+            self.counts.accepted[place.expect("accepted requests have a header")] += 1;
+        }
+        Ok(answer.outcome)
+    }
+
+    /// A call whose outcome the paper fixes in words, so that `handle` is checked as well.
+    pub fn expect(
+        &mut self,
+        outcome: u8,
+        tables: &mut Tables,
+        supplement: &Supplement,
+        request: &[u8],
+        buffer: usize,
+    ) -> Result<(), String> {
+        let before = tables.clone();
+        let came = self.call(tables, supplement, request, buffer)?;
+        if came != outcome {
+            return Err(format!(
+                "both engines answered {came} where {outcome} is due\n{}",
+                describe(&before, supplement, request, buffer, &[])
+            ));
+        }
+        Ok(())
+    }
+}
+
+fn describe(before: &Tables, supplement: &Supplement, request: &[u8], buffer: usize, filling: &[u8]) -> String {
+    format!(
+        "slot count {}, register count {}, buffer {buffer}\nrequest {}\n        {}\nclock {}\nidentity {} {}\nload request {} {}\ntag {}\ncheck {}\npassed {}\nbuffer before {}\nrows before\n{}",
+        before.slot_count,
+        before.register_count,
+        hex(request),
+        String::from_utf8_lossy(request).escape_debug(),
+        hex(&supplement.clock),
+        supplement.identity_length,
+        hex(&supplement.identity),
+        supplement.request_length,
+        hex(&supplement.request),
+        hex(&supplement.tag),
+        hex(&supplement.check),
+        supplement.passed,
+        hex(filling),
+        show_rows(before)
+    )
+}
+
+fn show_rows(tables: &Tables) -> String {
+    let mut text = String::new();
+    for (place, row) in tables.slots.iter().enumerate().filter(|(_, row)| !row.is_free()) {
+        let bytes = [&[row.state], &row.kmcid[..], &row.fingerprint, &row.tvp].concat();
+        text += &format!("  slot {} {}\n", place + 1, hex(&bytes));
+    }
+    for (place, row) in tables.registers.iter().enumerate().filter(|(_, row)| !row.is_free()) {
+        text += &format!("  register {} {}\n", place + 1, hex(&row.card));
+    }
+    text
+}
+
+pub fn hex(bytes: &[u8]) -> String {
+    bytes.iter().map(|byte| format!("{byte:02X}")).collect()
+}
+
+/// The whole run: the fixed parts, every single-byte edit (a sample of 8 times
+/// `calls` when there are more), then `calls` random ones. A difference is the error.
+pub fn try_run(engine: &mut dyn Engine, calls: u64, seed: u64) -> Result<Counts, String> {
+    let mut bench = Bench::new(engine, seed);
+    bench.part("named cases");
+    parts::named_cases(&mut bench)?;
+    bench.part("row counts");
+    parts::row_counts(&mut bench)?;
+    bench.part("buffers");
+    parts::buffers(&mut bench)?;
+    bench.part("rows");
+    parts::rows(&mut bench)?;
+    bench.part("supplements");
+    parts::supplements(&mut bench)?;
+    bench.part("edits");
+    edits::all(&mut bench, calls.saturating_mul(8), seed)?;
+    bench.part("mixed faults");
+    parts::mixed(&mut bench, calls / 4, seed)?;
+    bench.part("histories");
+    history::compare(&mut bench, calls - calls / 4, seed)?;
+    let missing = bench.counts.missing();
+    if missing.is_empty() {
+        Ok(bench.counts)
+    } else {
+        Err(format!("never came up: {}\n{}", missing.join(", "), bench.counts))
+    }
+}
+
+/// As `try_run`; prints the seed first, and on a difference prints the call and stops.
+pub fn run(engine: &mut dyn Engine, calls: u64, seed: u64) -> Counts {
+    println!("seed {seed}");
+    match try_run(engine, calls, seed) {
+        Ok(counts) => counts,
+        Err(difference) => {
+            eprintln!("{difference}");
+            panic!("the engines differ");
+        }
+    }
+}
