@@ -1,12 +1,16 @@
 # The commands that README.md names.
-.PHONY: test run compare format
+.PHONY: test run vectors compare format
 
 # Proves every crate from nothing, tries the must-fail edits, runs the programs and the comparison tests.
 test:
 	@bash tools/test.sh
 
-# Proves and runs the vectors program, and prints what each vector gives.
+# Proves and runs the program that hands in requests, and prints what each is answered.
 run:
+	@bash tools/run.sh requests
+
+# Proves and runs the vectors program, and prints what each vector gives.
+vectors:
 	@bash tools/run.sh vectors
 
 format:

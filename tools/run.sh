@@ -3,4 +3,4 @@
 set -eu
 cd "$(dirname "$0")/.."
 rt check "$1" | grep -E '^rt: '
-exec "target/bin/$1"
+exec "target/bin/$1" < "crates/$1/stdin"
