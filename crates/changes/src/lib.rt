@@ -32,13 +32,11 @@ pub fn change(d: Decision, t: Tables, x: Supplement, p: &[u8]) -> Tables
 {
     let mut u = t;
     let slots = t.slots;
-    let n = t.slot_count;
     let registers = t.registers;
-    let m = t.register_count;
     match d {
         Decision::Refuse(_) => u,
         Decision::Reset => {
-            let reset = slot_tables::reset_slots(slots, n);
+            let reset = slot_tables::reset_slots(slots, t.slot_count);
             u.slots = reset;
             u
         }
@@ -60,7 +58,8 @@ pub fn change(d: Decision, t: Tables, x: Supplement, p: &[u8]) -> Tables
         }
         Decision::Delete(k) => {
             u.slots[k] = slot_rows::free_slot();
-            let left = register_tables::without_keys_of(registers, m, request_parts::only_text(p));
+            let s = request_parts::only_text(p);
+            let left = register_tables::without_keys_of(registers, t.register_count, s);
             u.registers = left;
             u
         }
