@@ -1,11 +1,16 @@
 -- Demand 3 of the entry point: over every list of requests, its tables go as the rows of which demand 3 is proved.
 use mathlib.Core.Path.{_≡_, refl, sym, ap, _∙_}
+use mathlib.Core.Logic.{_⊎_, inl, inr}
+use mathlib.Core.Bool.{Bool, true, false, _&&_}
 use mathlib.Core.Option.{Option, none, some}
 use mathlib.Core.List.{List, [], _∷_, _++_, map}
-use Prim.Native.Nat.{ℕ, zero, suc, _+_, _-_, _≤_}
+use Prim.Native.Nat.{ℕ, zero, suc, _+_, _-_, _≤_, _<_}
 use native.Mathlib.Omega.{arith}
-use lib.ListN.{length, set, take, drop, replicate, length-set, length-map, length-append, length-drop, length-replicate}
+use lib.ListN.{length, set, take, drop, replicate, length-set, length-map, length-append, length-drop, length-replicate, take-append-drop}
 use lib.Seq.{length-take-le, take-at}
+use lib.Dec.{leb}
+use borrow.Author.Tests.{le-leb, lt-leb}
+use Rattle.octets.proofs.Below.{below-or}
 use Rattle.fields.specs.Values.{Value}
 use Rattle.commands.specs.declared.Command.{Command}
 use Rattle.commands.specs.declared.Command.the-variants.{RS, KC, KR, KL, KF, KX, KD, GA, GL, KQ, Unknown}
@@ -16,13 +21,19 @@ use Rattle.rows.specs.declared.Tables.{Tables}
 use Rattle.history.specs.History.{finally, trace}
 use Rattle.history.specs.Demand3.{Demand3}
 use Rattle.history.specs.Model as model
+use Rattle.history.specs.Model.{_⇒_}
+use Rattle.history.specs.Step.{refuses}
+use Rattle.history.proofs.Theorem as theorem
 use Rattle.engine.specs.Requests.{commandIn, fieldsIn, recordIn, slotIn}
-use Rattle.engine.specs.Questions.{Call, questions, firstNo}
+use Rattle.responses.specs.Responses.{statusOf}
+use Rattle.frames.specs.Frames.{textOf}
+use Rattle.engine.specs.Questions.{Call, areCounts, questions, firstNo}
 use Rattle.engine.specs.Answers.{Answer, slotsOpened, slotsWithout, refused, answered, effect, answerTo, answerOf}
 use Rattle.engine.specs.Calls.{callIn, tablesAfter}
-use Rattle.engine.specs.Words.{tablesOf, Handed, Lent, callOf, rowsAfter, answerBytes, itemAt, emptyRows}
+use Rattle.engine.specs.Words.{tablesOf, requestOf, isAccepted, Handed, Lent, callOf, rowsAfter, answerBytes, itemAt, emptyRows}
 use Rattle.engine.specs.declared.Refusal.{Refusal}
-use Rattle.engine.proofs.Demand3.{rowsOf, demand3}
+use Rattle.engine.specs.declared.Refusal.the-variants.{RowCounts}
+use Rattle.engine.proofs.Demand3.{rowsOf, starts-empty, demand3}
 use Rattle.core.specs.Lists.{entryCall, tablesNext, entryItem, rowsIn, emptyTables}
 
 -- an answer has as many rows as its call
@@ -107,6 +118,24 @@ replicate-front zero m v h = refl
 replicate-front (suc n) zero v h = absurd (omega arith)
 replicate-front {A} (suc n) (suc m) v h = ap (λ (l : List A). v ∷ l) (replicate-front n m v (omega arith))
 
+front-of : {A : Type 0} (n k : ℕ) (v : A) → (j : ℕ) × (take n (replicate k v) ≡ replicate j v)
+front-of zero k v = (zero, refl)
+front-of (suc n) zero v = (zero, refl)
+front-of {A} (suc n) (suc k) v = let r = front-of n k v in (suc (r .0), ap (λ (l : List A). v ∷ l) (r .1))
+
+many-slots : (n m : ℕ) → 8 < n → areCounts n m ≡ false
+unfolding areCounts
+many-slots n m h = rw (le-leb 1 n (omega arith), lt-leb n 8 h) refl
+
+many-registers : (n m : ℕ) → 32 < m → areCounts n m ≡ false
+unfolding areCounts
+many-registers n m h = last (leb 1 n) (leb n 8)
+  where
+    last : (a b : Bool) → (a && (b && (leb 1 m && leb m 32))) ≡ false
+    last false b = refl
+    last true false = refl
+    last true true = rw (le-leb 1 m (omega arith), lt-leb m 32 h) refl
+
 module _ (n m : ℕ) (a : n ≤ 8) (b : m ≤ 32) where
   whole-empty : Whole (emptyTables n m)
   unfolding emptyTables
@@ -116,9 +145,63 @@ module _ (n m : ℕ) (a : n ≤ 8) (b : m ≤ 32) where
   unfolding emptyTables emptyRows
   lent-empty = λ j. record { slots = replicate-front n 8 freeSlot a j; registers = replicate-front m 32 freeRegister b j }
 
-  -- from empty tables, over every list of requests handed to the entry point
-  pub entry-demand3 : (calls : List Handed) → Demand3 (trace tablesNext entryItem (emptyTables n m) calls) (rowsIn (finally tablesNext entryItem (emptyTables n m) calls))
-  entry-demand3 calls =
+  in-range : (calls : List Handed) → Demand3 (trace tablesNext entryItem (emptyTables n m) calls) (rowsIn (finally tablesNext entryItem (emptyTables n m) calls))
+  in-range calls =
       let h : trace tablesNext entryItem (emptyTables n m) calls ≡ trace rowsAfter itemAt (emptyRows n m) calls = same-trace (emptyTables n m) whole-empty calls ∙ ap (λ (l : Lent). trace rowsAfter itemAt l calls) lent-empty in
       let t : lent (finally tablesNext entryItem (emptyTables n m) calls) ≡ finally rowsAfter itemAt (emptyRows n m) calls = same-end (emptyTables n m) whole-empty calls ∙ ap (λ (l : Lent). finally rowsAfter itemAt l calls) lent-empty in
       rw (h, ap rowsOf t) (demand3 n m calls)
+
+-- counts out of range: every request is refused with 1, and the tables stay
+module _ (n m : ℕ) (o : areCounts n m ≡ false) where
+  abbrev t₀ : Tables
+  t₀ = emptyTables n m
+
+  refused-all : (e : Handed) → answerOf (entryCall t₀ e) ≡ refused (entryCall t₀ e) RowCounts
+  unfolding answerOf questions emptyTables
+  refused-all e = rw o refl
+
+  stays : (e : Handed) → tablesNext t₀ e ≡ t₀
+  unfolding refused emptyTables
+  stays e = rw (refused-all e) (λ j. record { slots = take-append-drop n (replicate 8 freeSlot) j; registers = take-append-drop m (replicate 32 freeRegister) j; «slot_count» = n; «register_count» = m })
+
+  abbrev asks : Handed → model.Request
+  asks e = requestOf (commandIn (e .request)) (fieldsIn (e .request))
+
+  says-no : (e : Handed) → entryItem t₀ e ≡ (asks e ⇒ model.refused)
+  unfolding refused isAccepted statusOf textOf
+  says-no e = rw (refused-all e) refl
+
+  same-end-out : (es : List Handed) → finally tablesNext entryItem t₀ es ≡ t₀
+  unfolding finally
+  same-end-out [] = refl
+  same-end-out (e ∷ es) = rw (stays e) (same-end-out es)
+
+  same-trace-out : (es : List Handed) → trace tablesNext entryItem t₀ es ≡ trace (λ (t : Tables) (e : Handed). t) (λ (t : Tables) (e : Handed). asks e ⇒ model.refused) t₀ es
+  unfolding trace
+  same-trace-out [] = refl
+  same-trace-out (e ∷ es) = rw (says-no e, stays e) (ap (λ (h : List model.Item). (asks e ⇒ model.refused) ∷ h) (same-trace-out es))
+
+  same-still : (es : List Handed) → finally (λ (t : Tables) (e : Handed). t) (λ (t : Tables) (e : Handed). asks e ⇒ model.refused) t₀ es ≡ t₀
+  unfolding finally
+  same-still [] = refl
+  same-still (e ∷ es) = same-still es
+
+  starts-out : (a : (j : ℕ) × (take n (replicate 8 freeSlot) ≡ replicate j freeSlot)) (b : (k : ℕ) × (take m (replicate 32 freeRegister) ≡ replicate k freeRegister)) → rowsIn t₀ ≡ model.empty (a .0) (b .0)
+  unfolding emptyTables emptyRows
+  starts-out a b = rw (a .1, b .1) (starts-empty (a .0) (b .0))
+
+  out-of-range : (calls : List Handed) → Demand3 (trace tablesNext entryItem t₀ calls) (rowsIn (finally tablesNext entryItem t₀ calls))
+  out-of-range calls =
+      let a = front-of n 8 freeSlot in
+      let b = front-of m 32 freeRegister in
+      let d = theorem.demand3 (λ (t : Tables) (e : Handed). t) (λ (t : Tables) (e : Handed). asks e ⇒ model.refused) rowsIn (λ t e. refuses (asks e)) t₀ (a .0) (b .0) (starts-out a b) calls in
+      rw (same-trace-out calls, same-end-out calls) (rw (same-still calls) at d)
+
+-- from empty tables of any row counts, over every list of requests handed to the entry point
+pub entry-demand3 : (n m : ℕ) (calls : List Handed) → Demand3 (trace tablesNext entryItem (emptyTables n m) calls) (rowsIn (finally tablesNext entryItem (emptyTables n m) calls))
+entry-demand3 n m calls = go (below-or 8 n) (below-or 32 m)
+  where
+    go : (8 < n) ⊎ (n ≤ 8) → (32 < m) ⊎ (m ≤ 32) → Demand3 (trace tablesNext entryItem (emptyTables n m) calls) (rowsIn (finally tablesNext entryItem (emptyTables n m) calls))
+    go (inl h) j = out-of-range n m (many-slots n m h) calls
+    go (inr h) (inl k) = out-of-range n m (many-registers n m k) calls
+    go (inr h) (inr k) = in-range n m h k calls
