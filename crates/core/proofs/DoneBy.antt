@@ -1,35 +1,16 @@
 -- What is done on a decision is what the answer says: outcome, response and rows.
-use mathlib.Core.Path.{_≡_, refl, sym, ap, _∙_}
-use mathlib.Core.Bool.{Bool, true, false, _&&_}
-use mathlib.Core.List.{List, [], _∷_, _++_, map}
-use mathlib.Core.Option.{Option, none, some}
-use Prim.Native.Nat.{ℕ, _+_, _-_, _≤_, _<_}
-use native.Mathlib.Omega.{arith}
-use lib.Dec.{leb}
-use lib.ListN.{length, getD, set, take, drop, take-append-drop}
-use lib.Seq.{set-append-left, getD-take, length-take-le}
-use borrow.Author.Tests.{leb-true}
-use Rattle.octets.proofs.Flags.{and-first, and-second}
-use Rattle.fields.specs.Values.{Value}
-use Rattle.commands.specs.declared.Command.{Command}
-use Rattle.commands.specs.declared.Command.the-variants.{RS, KC, KR, KL, KF, KX, KD}
-use Rattle.rows.specs.Slots.{freeSlot, movedSlot}
-use Rattle.rows.specs.Registers.{isVacant, freeRegister}
-use Rattle.rows.specs.declared.SlotRow.{SlotRow}
-use Rattle.rows.specs.declared.RegisterRow.{RegisterRow}
-use Rattle.rows.specs.declared.Supplement.{Supplement}
-use Rattle.rows.specs.declared.Tables.{Tables}
-use Rattle.engine.specs.Requests.{fieldsIn, registerIn, recordIn, slotIn, cardIn, firstText, secondText}
-use Rattle.engine.specs.Questions.{Call, placeIn, slotPlace, sessionPlace, storePlace, slotNamed, isFilled, questions}
-use Rattle.engine.specs.Answers.{Answer, slotsMoved, slotsOpened, slotsWithout, cardPlace, refused, answered, effect, answerOf}
-use Rattle.engine.specs.Calls.{callIn, tablesAfter}
+use mathlib.Core.Path.{_≡_, refl, sym, ap}
+use mathlib.Core.Bool.{false}
+use Prim.Native.Nat.{ℕ, _-_}
+use Rattle.commands.specs.declared.Command.the-variants.{KC, KR, KL, KF, KX}
+use Rattle.engine.specs.Requests.{fieldsIn, registerIn, recordIn, slotIn, cardIn}
+use Rattle.engine.specs.Questions.{Call, placeIn, slotPlace, sessionPlace}
+use Rattle.engine.specs.Answers.{Answer, cardPlace, refused, answered, effect, answerOf}
 use Rattle.engine.specs.Decisions.{decisionOf}
-use Rattle.engine.specs.declared.Refusal.{Refusal}
 use Rattle.engine.specs.declared.Decision.{Decision}
 use Rattle.engine.specs.declared.Decision.the-variants.{Refuse, Reset, Pend, Open, Load, Finish, Delete, Clear}
-use Rattle.engine.proofs.DecisionLaws.{commandFor, isRefuse, Carried, told, carried}
+use Rattle.engine.proofs.DecisionLaws.{commandFor, isRefuse, told, carried}
 use Rattle.responding.specs.Responding.{outcomeFor, responseFor}
-use Rattle.changes.specs.Changes.{tablesFor}
 
 -- the answer of a decision that carries its command out
 pub effect-of : (c : Call) (d : Decision) → decisionOf c ≡ d → isRefuse d ≡ false → effect c (commandFor d) (fieldsIn (c .request)) (recordIn (commandFor d) (fieldsIn (c .request))) (slotIn (commandFor d) (fieldsIn (c .request))) ≡ answerOf c

@@ -3,10 +3,10 @@ use mathlib.Core.Path.{_≡_, refl, sym, ap, _∙_}
 use mathlib.Core.Logic.{_⊎_, inl, inr}
 use mathlib.Core.Bool.{Bool, true, false, _&&_}
 use mathlib.Core.Option.{Option, none, some}
-use mathlib.Core.List.{List, [], _∷_, _++_, map}
-use Prim.Native.Nat.{ℕ, zero, suc, _+_, _-_, _≤_, _<_}
+use mathlib.Core.List.{List, [], _∷_, _++_}
+use Prim.Native.Nat.{ℕ, zero, suc, _+_, _≤_, _<_}
 use native.Mathlib.Omega.{arith}
-use lib.ListN.{length, set, take, drop, replicate, length-set, length-map, length-append, length-drop, length-replicate, take-append-drop}
+use lib.ListN.{length, take, drop, replicate, length-set, length-map, length-append, length-drop, take-append-drop}
 use lib.Seq.{length-take-le, take-at}
 use lib.Dec.{leb}
 use borrow.Author.Tests.{le-leb, lt-leb}
@@ -24,13 +24,12 @@ use Rattle.history.specs.Model as model
 use Rattle.history.specs.Model.{_⇒_}
 use Rattle.history.specs.Step.{refuses}
 use Rattle.history.proofs.Theorem as theorem
-use Rattle.engine.specs.Requests.{commandIn, fieldsIn, recordIn, slotIn}
+use Rattle.engine.specs.Requests.{commandIn, fieldsIn}
 use Rattle.responses.specs.Responses.{statusOf}
 use Rattle.frames.specs.Frames.{textOf}
 use Rattle.engine.specs.Questions.{Call, areCounts, questions, firstNo}
 use Rattle.engine.specs.Answers.{Answer, slotsOpened, slotsWithout, refused, answered, effect, answerTo, answerOf}
-use Rattle.engine.specs.Calls.{callIn, tablesAfter}
-use Rattle.engine.specs.Words.{tablesOf, requestOf, isAccepted, Handed, Lent, callOf, rowsAfter, answerBytes, itemAt, emptyRows}
+use Rattle.engine.specs.Words.{requestOf, isAccepted, Handed, Lent, callOf, rowsAfter, itemAt, emptyRows}
 use Rattle.engine.specs.declared.Refusal.{Refusal}
 use Rattle.engine.specs.declared.Refusal.the-variants.{RowCounts}
 use Rattle.engine.proofs.Demand3.{rowsOf, starts-empty, demand3}

@@ -1,9 +1,8 @@
 -- What a decision says of its places, its strings and the room is enough to write its response and to change the rows.
-use mathlib.Core.Path.{_≡_, refl, sym, ap, subst, _∙_}
-use mathlib.Core.Bool.{Bool, true, false, _&&_}
+use mathlib.Core.Path.{_≡_, refl, sym, subst, _∙_}
+use mathlib.Core.Bool.{true, false}
 use mathlib.Core.List.{List, [], _∷_}
-use mathlib.Core.Option.{Option, none, some}
-use Prim.Native.Nat.{ℕ, zero, suc, _-_, _≤_, _<_}
+use Prim.Native.Nat.{ℕ, zero, suc, _≤_, _<_}
 use native.Mathlib.Omega.{arith}
 use lib.Dec.{leb}
 use lib.ListN.{length, take}
@@ -25,10 +24,10 @@ use Rattle.rows.specs.Supplements.{isWellFormed, isIdentityRight, isLoadRequest
 use Rattle.rows.specs.declared.Supplement.{Supplement}
 use Rattle.rows.specs.declared.Tables.{Tables}
 use Rattle.engine.specs.Refusals.{Header, silent, general, own, refusal}
-use Rattle.engine.specs.Requests.{commandIn, fieldsIn, registerIn, recordIn, slotIn, cardIn, areFieldsOf, firstText}
-use Rattle.engine.specs.Questions.{Call, areCounts, placeIn, questions, firstNo}
+use Rattle.engine.specs.Requests.{fieldsIn, registerIn, recordIn, slotIn, cardIn, firstText}
+use Rattle.engine.specs.Questions.{Call, areCounts}
 use Rattle.engine.specs.Calls.{callIn}
-use Rattle.engine.specs.Decisions.{granted, decided, decisionOf}
+use Rattle.engine.specs.Decisions.{decisionOf}
 use Rattle.engine.specs.declared.Refusal.{Refusal}
 use Rattle.engine.specs.declared.Decision.{Decision}
 use Rattle.engine.specs.declared.Decision.the-variants.{Refuse, Reset, Pend, Open, Load, Finish, Delete, Clear}
@@ -37,7 +36,7 @@ use Rattle.engine.proofs.RefusalLaws.{isSilent, isOwn, Group, of-tables, of-mes
 use Rattle.engine.proofs.Steps.{Yes, yes-of, is-short}
 use Rattle.refusals.specs.Tellings.{CanTell}
 use Rattle.refusals.proofs.TellingLaws.{can-tell}
-use Rattle.request_parts.specs.Parts.{kmcidOf, cardOf}
+use Rattle.request_parts.specs.Parts.{cardOf}
 use Rattle.responding.specs.Responding.{HasRoom, CanRespond}
 use Rattle.changes.specs.Changes.{CanChange}
 use Rattle.core.proofs.DoneBy.{load-place, pend-place, open-place, finish-place, delete-place, clear-place}

@@ -1,23 +1,21 @@
 -- The tables after a decision are the answer's rows, and the places beyond them as they were.
 use mathlib.Core.Path.{_≡_, refl, sym, ap, _∙_}
-use mathlib.Core.Bool.{Bool, true, false}
-use mathlib.Core.List.{List, [], _∷_, _++_, map}
-use Prim.Native.Nat.{ℕ, zero, suc, _-_, _≤_, _<_}
+use mathlib.Core.Bool.{true}
+use mathlib.Core.List.{List, [], _∷_, _++_}
+use Prim.Native.Nat.{ℕ, zero, suc, _<_}
 use native.Mathlib.Omega.{arith}
 use lib.ListN.{length, getD, set, take, drop, take-append-drop}
 use lib.Seq.{set-append-left}
 use Rattle.fields.specs.Values.{Value}
-use Rattle.commands.specs.declared.Command.the-variants.{RS, KC, KR, KL, KF, KX, KD}
-use Rattle.rows.specs.Slots.{freeSlot, filledSlot, movedSlot}
+use Rattle.commands.specs.declared.Command.the-variants.{KC, KR, KF, KX}
+use Rattle.rows.specs.Slots.{freeSlot, movedSlot}
 use Rattle.rows.specs.Registers.{freeRegister}
-use Rattle.rows.specs.declared.SlotRow.{SlotRow}
-use Rattle.rows.specs.declared.RegisterRow.{RegisterRow}
 use Rattle.rows.specs.declared.SlotState.{SlotState}
 use Rattle.rows.specs.declared.Supplement.{Supplement}
 use Rattle.rows.specs.declared.Tables.{Tables}
-use Rattle.engine.specs.Requests.{fieldsIn, registerIn, recordIn, slotIn, cardIn, firstText}
-use Rattle.engine.specs.Questions.{Call, placeIn, isPlace, slotPlace, sessionPlace, slotNamed}
-use Rattle.engine.specs.Answers.{Answer, slotsMoved, slotsOpened, slotsWithout, cardPlace, refused, answered, effect, answerOf}
+use Rattle.engine.specs.Requests.{fieldsIn, registerIn, recordIn, slotIn}
+use Rattle.engine.specs.Questions.{Call, placeIn, isPlace, slotPlace, slotNamed}
+use Rattle.engine.specs.Answers.{Answer, slotsMoved, slotsOpened, slotsWithout, refused, answered, effect, answerOf}
 use Rattle.engine.specs.Calls.{callIn, tablesAfter}
 use Rattle.engine.specs.Decisions.{decisionOf}
 use Rattle.engine.specs.declared.Decision.{Decision}

@@ -1,6 +1,5 @@
 -- The entry point over a list of requests: each handed in with a supplement and a response buffer of its own, over the tables that the one before it left.
 use Prim.Native.Nat.{ℕ}
-use mathlib.Core.List.{List}
 use lib.ListN.{length, replicate}
 use Rattle.rows.specs.Places.{slotRows, registerRows}
 use Rattle.rows.specs.Slots.{freeSlot}
