@@ -24,6 +24,7 @@ use Rattle.engine.specs.declared.Refusal.{Refusal}
 use Rattle.engine.specs.declared.Refusal.the-variants.{RowCounts, ShortBuffer, UnsoundRows, BadSupplement, BadFrame, BadChecksum, UnknownHeader, BadFields, BadRecord, BadForm, Expired, UnknownSlot, NoFreeSlot, WrongState, OtherModule, OtherFingerprint, OtherTvp, OtherTag, CheckFailed, NoFreeRegister, EmptyRegister}
 use Rattle.engine.specs.declared.Outcome.{Outcome}
 use Rattle.engine.specs.declared.Outcome.the-variants.{Accepted, Done, Refused}
+use Rattle.refusals.specs.Tellings.{headerFor}
 use Rattle.engine.proofs.RefusalLaws.{isSilent, Group, of-tables, of-message, of-later, refusal-group, tables-silent, message-general}
 use Rattle.engine.proofs.AnswerWords.{header-five, refusal-said}
 use Rattle.engine.proofs.AnswerLaws.{isYes, refused-by}
@@ -31,11 +32,7 @@ use Rattle.engine.proofs.Steps.{yes-of}
 use Rattle.answer_cases.proofs.Accepted.{none-first}
 use Rattle.answer_cases.proofs.Numbers.{numberOf, every-refusal}
 
--- how a refusal is told by its number: 1 to 4 write nothing, for 5 to 7 GL!ER stands in place of the request's own header;
-abbrev pub headerFor : ℕ → Header
-headerFor n = cond (leb n 4) silent (cond (leb n 7) general own)
-
--- the status is 20 for 6, 21 for 7, 27 for 12, 28 for 20, 22 for 21, else EE,
+-- how a refusal is told by its number: the header as `headerFor` has it; the status is 20 for 6, 21 for 7, 27 for 12, 28 for 20, 22 for 21, else EE,
 abbrev pub statusFor : ℕ → List ℕ
 statusFor n =
     cond (leb n 4) []
