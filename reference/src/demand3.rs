@@ -36,7 +36,9 @@ pub enum Word {
     /// An SM?KD of register n.
     DeleteKey(u64),
     Reset,
-    /// Not accepted, or not of these commands.
+    /// An SM?GA, SM?GL or SM?KQ: they only read rows, and no sentence speaks of them.
+    Read,
+    /// Not accepted, or none of the ten.
     Nothing,
 }
 
@@ -72,6 +74,7 @@ fn read(request: &[u8], answer: &[u8]) -> Option<Word> {
         b"SM?KX" => Word::DeleteSlot(fields.string()?.to_vec()),
         b"SM?KD" => Word::DeleteKey(fields.number()?),
         b"GL?RS" => Word::Reset,
+        b"SM?GA" | b"SM?GL" | b"SM?KQ" => Word::Read,
         _ => Word::Nothing,
     })
 }

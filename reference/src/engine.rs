@@ -34,9 +34,6 @@ impl Command {
         Command::GL,
         Command::KQ,
     ];
-    /// The commands of demand 3's first list.
-    pub const SEVEN: [Command; 7] =
-        [Command::RS, Command::KC, Command::KR, Command::KL, Command::KF, Command::KX, Command::KD];
 
     pub fn header(self) -> &'static [u8; 5] {
         match self {
@@ -64,10 +61,8 @@ pub struct Answer {
     pub length: usize,
 }
 
-/// Answers one request. `built` lists the commands that are answered; the header
-/// of another is refused with 7. No refusal changes a row.
+/// Answers one request. No refusal changes a row.
 pub fn handle(
-    built: &[Command],
     slots: &mut [SlotRow],
     registers: &mut [RegisterRow],
     supplement: &Supplement,
@@ -91,7 +86,7 @@ pub fn handle(
     if !supplement.well_formed() {
         return silent(4);
     }
-    match decide(built, slots, registers, supplement, request) {
+    match decide(slots, registers, supplement, request) {
         Ok(decision) => {
             let (state, payload) = carry_out(&decision, slots, registers, supplement);
             let length = write(response, &answer_header(request), b"00", &payload);
@@ -133,7 +128,6 @@ enum Decision<'a> {
 
 /// Questions 5 to 18; the error is the refusal number.
 fn decide<'a>(
-    built: &[Command],
     slots: &[SlotRow],
     registers: &[RegisterRow],
     supplement: &Supplement,
@@ -151,9 +145,9 @@ fn decide<'a>(
         return Err(6);
     }
 
-    // 7. Is the header one of the ten (of those built)?
+    // 7. Is the header one of the ten?
     let (header, payload) = covered.split_at(5);
-    let Some(&command) = built.iter().find(|command| *command.header() == *header) else {
+    let Some(command) = Command::ALL.into_iter().find(|command| *command.header() == *header) else {
         return Err(7);
     };
 

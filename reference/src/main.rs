@@ -1,19 +1,14 @@
-//! Runs the harness against `handle` itself: `reference [calls [seed [seven|ten]]]`.
+//! Runs the harness against `handle` itself: `reference [calls [seed]]`.
 
 use reference::harness::{self, Reference};
-use reference::Command;
 use std::time::{SystemTime, UNIX_EPOCH};
 
 fn main() {
     let mut arguments = std::env::args().skip(1);
     let calls = arguments.next().map_or(200_000, |text| text.parse().expect("a number of calls"));
     let seed = arguments.next().map_or_else(clock_seed, |text| text.parse().expect("a seed"));
-    let built = match arguments.next().as_deref() {
-        Some("ten") => Command::ALL.to_vec(),
-        _ => Command::SEVEN.to_vec(),
-    };
     let start = std::time::Instant::now();
-    let counts = harness::run(&mut Reference { built }, calls, seed);
+    let counts = harness::run(&mut Reference, calls, seed);
     print!("{counts}");
     println!("{:.1} s", start.elapsed().as_secs_f64());
 }

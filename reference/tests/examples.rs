@@ -3,11 +3,12 @@
 use reference::harness::requests::{self, frame, string};
 use reference::harness::tables::Tables;
 use reference::rows::{FREE, IDLE, LOADING, PENDING};
-use reference::{handle, usable, Answer, Command, Supplement};
+use reference::{handle, usable, Answer, Supplement};
 
 const OWN: &[u8] = b"SMID.1:Prism:12345678:20130303T153830Z:E7C42215AF1FE951:9C7D";
 const TAG: &[u8] = b"A9FE9315B7456852D261B5A42364C4F5AF9693DB0D6931B6";
-const CARD_9: &str = "ACT20040301T140000Z;BDT19930101T000000Z;CLMFFFFFFFF;CLU0;DKG04;IUT20150301T140000Z;KCV6C3DE4;KEN255;KRN1;KSLKMCname1;KTC2;SBMFFFF;SGC0000123457;ULM999999999;VND1;";
+/// The card of 001 example 6.3.8.4.
+const CARD: &str = "ACT20040301T140000Z;BDT19930101T000000Z;CLMFFFFFFFF;CLU0;DKG04;IUT20150301T140000Z;KCV6C3DE4;KEN255;KRN1;KSLTestKMCName;KTC2;SBMFFFF;SGC0000123457;ULM999999999;VND1;";
 
 fn supplement(clock: &[u8; 16], request: &[u8]) -> Supplement {
     requests::supplement(clock, OWN, request, TAG, b"92E101")
@@ -17,14 +18,8 @@ fn supplement(clock: &[u8; 16], request: &[u8]) -> Supplement {
 fn ask(tables: &mut Tables, supplement: &Supplement, request: &[u8]) -> (Answer, String) {
     let mut response = [0; 1024];
     let (slots, registers) = (tables.slot_count, tables.register_count);
-    let answer = handle(
-        &Command::ALL,
-        &mut tables.slots[..slots],
-        &mut tables.registers[..registers],
-        supplement,
-        request,
-        &mut response,
-    );
+    let answer =
+        handle(&mut tables.slots[..slots], &mut tables.registers[..registers], supplement, request, &mut response);
     let text = response[..answer.length].to_vec();
     let body = &text[..text.len() - 5];
     assert_eq!(frame(&text[..5], &body[5..]), text, "the response is framed");
@@ -44,14 +39,7 @@ fn clause_5_3_3() {
         (b"SM?JUNK420B\r", b"GL!ER2166E5\r"),
     ] {
         let mut tables = Tables::empty(8, 32);
-        let answer = handle(
-            &Command::ALL,
-            &mut tables.slots[..8],
-            &mut tables.registers[..32],
-            &plain(),
-            request,
-            &mut response,
-        );
+        let answer = handle(&mut tables.slots[..8], &mut tables.registers[..32], &plain(), request, &mut response);
         assert_eq!(&response[..answer.length], reply);
     }
 }
@@ -135,12 +123,18 @@ fn clause_6_3_5_4_load() {
 
 #[test]
 fn clause_6_3_1_list() {
+    let list = frame(b"SM?GL", b"");
     let mut tables = Tables::empty(4, 1);
-    assert_eq!(ask(&mut tables, &plain(), &frame(b"SM?GL", b"")).1, "SM!GL00");
-    for (place, name) in [(0, "KMCname01"), (2, "kmc_name02"), (3, "kmc_name03")] {
-        tables.put_slot(place, IDLE, name.as_bytes(), b"8E22231BC992010A", b"");
-    }
-    assert_eq!(ask(&mut tables, &plain(), &frame(b"SM?GL", b"")).1, "SM!GL00PKMCname01~Pkmc_name02~Pkmc_name03~");
+    assert_eq!(ask(&mut tables, &plain(), &list).1, "SM!GL00");
+    // The checksum, which is not printed here; `ask` has compared the frame.
+    assert_eq!(frame(b"SM!GL", b"00"), b"SM!GL00A811\r");
+    tables.put_slot(1, IDLE, b"KMCnameUpTo40chars", b"8E22231BC992010A", b"");
+    assert_eq!(ask(&mut tables, &plain(), &list).1, "SM!GL00PKMCnameUpTo40chars~");
+    let mut tables = Tables::empty(4, 1);
+    tables.put_slot(0, PENDING, b"KMCname01", b"8E22231BC992010A", b"20130401T120011Z");
+    tables.put_slot(2, LOADING, b"kmc_name02", b"8E22231BC992010A", b"");
+    tables.put_slot(3, IDLE, b"kmc_name03", b"8E22231BC992010A", b"");
+    assert_eq!(ask(&mut tables, &plain(), &list).1, "SM!GL00PKMCname01~Pkmc_name02~Pkmc_name03~");
 }
 
 #[test]
@@ -148,20 +142,45 @@ fn clause_6_3_2_4_query() {
     let mut tables = Tables::empty(1, 22);
     tables.put_slot(0, PENDING, b"KMCname1", b"8E22231BC992010A", b"20130401T120011Z");
     let query = frame(b"SM?KQ", b"PKMCname1~");
+    // Printed too with a current fingerprint, which a PENDING row does not hold.
     assert_eq!(
         ask(&mut tables, &plain(), &query).1,
         "SM!KQ00PPENDING~PKMCname1~P~H~P20130401T120011Z~H8E22231BC992010A~"
     );
-    tables.put_slot(0, IDLE, b"KMCname1", b"9E1C3307032C6A0F", b"");
-    for place in 0..22 {
-        tables.put_card(place, CARD_9.replace("SGC0000123457", &format!("SGC{place:010}")).as_bytes());
+    tables.put_slot(0, LOADING, b"KMCname1", b"9E1C3307032C6A0F", b"");
+    let card = |n: usize| CARD.replace("SGC0000123457", &format!("SGC{n:010}")).replace("TestKMCName", "KMCname1");
+    for n in [13, 11, 10, 9, 5, 4, 3, 1] {
+        tables.put_card(n - 1, card(n).as_bytes());
+    }
+    // Printed without the P of LOADING, and with a current TVP, which a LOADING row does not hold.
+    assert_eq!(
+        ask(&mut tables, &plain(), &query).1,
+        "SM!KQ00PLOADING~PKMCname1~P~H9E1C3307032C6A0F~P~H~N1~N3~N4~N5~N9~N10~N11~N13~"
+    );
+    tables.slots[0].state = IDLE;
+    for n in 1..=22 {
+        tables.put_card(n - 1, card(n).as_bytes());
     }
     assert_eq!(
         ask(&mut tables, &plain(), &query).1,
         "SM!KQ00PACTIVE~PKMCname1~P~H9E1C3307032C6A0F~P~H~N1~N2~N3~N4~N5~N6~N7~N8~N9~N10~N11~N12~N13~N14~N15~N16~N17~N18~N19~N20~N21~N22~"
     );
-    tables.slots[0].state = LOADING;
-    assert!(ask(&mut tables, &plain(), &query).1.starts_with("SM!KQ00PLOADING~PKMCname1~P~H9E1C3307032C6A0F~P~H~N1~"));
+    for name in ["", "kmcname1", "KMCname", &"k".repeat(41)] {
+        let query = frame(b"SM?KQ", format!("P{name}~").as_bytes());
+        assert_eq!(ask(&mut tables, &plain(), &query).1, "SM!KQ27");
+    }
+}
+
+#[test]
+fn clause_6_3_8_4_attributes() {
+    let mut tables = Tables::empty(1, 13);
+    tables.put_slot(0, IDLE, b"TestKMCName", b"8E22231BC992010A", b"");
+    tables.put_card(12, CARD.as_bytes());
+    assert_eq!(ask(&mut tables, &plain(), &frame(b"SM?GA", b"N13~")).1, format!("SM!GA00P{CARD}~"));
+    // 001 answers 63 to a number out of range; document 01 decides, 21 with status 22.
+    for n in ["0", "12", "14", "2147483647"] {
+        assert_eq!(ask(&mut tables, &plain(), &frame(b"SM?GA", format!("N{n}~").as_bytes())).1, "SM!GA22");
+    }
 }
 
 #[test]

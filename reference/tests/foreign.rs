@@ -1,8 +1,8 @@
-//! An engine behind extern "C", as a caller in C would see it; here it is `handle`.
-//! For another engine, declare its function in an `extern "C"` block and link it.
+//! An engine behind extern "C", as a caller in C would see it; here it is `handle` and `usable`.
+//! For another engine, declare its functions in an `extern "C"` block and link it.
 
 use reference::harness::{try_run, Engine};
-use reference::{handle, Command, RegisterRow, SlotRow, Supplement};
+use reference::{handle, usable, RegisterRow, SlotRow, Supplement};
 
 #[repr(C)]
 struct Result {
@@ -28,7 +28,6 @@ unsafe extern "C" fn engine_handle(
         return Result { outcome: 1, state: 255, length: 0 };
     }
     let answer = handle(
-        &Command::ALL,
         std::slice::from_raw_parts_mut(slots, slot_count),
         std::slice::from_raw_parts_mut(registers, register_count),
         &*supplement,
@@ -36,6 +35,20 @@ unsafe extern "C" fn engine_handle(
         std::slice::from_raw_parts_mut(response, response_length),
     );
     Result { outcome: answer.outcome, state: answer.state.unwrap_or(255), length: answer.length }
+}
+
+unsafe extern "C" fn engine_usable(
+    slots: *const SlotRow,
+    slot_count: usize,
+    registers: *const RegisterRow,
+    register_count: usize,
+    register: usize,
+) -> u8 {
+    if slot_count > 8 || register_count > 32 {
+        return 0;
+    }
+    let slots = std::slice::from_raw_parts(slots, slot_count);
+    u8::from(usable(slots, std::slice::from_raw_parts(registers, register_count), register))
 }
 
 struct Foreign;
@@ -67,8 +80,15 @@ impl Engine for Foreign {
         (result.outcome, result.state, result.length)
     }
 
-    fn built(&self) -> Vec<Command> {
-        Command::ALL.to_vec()
+    fn usable(
+        &mut self,
+        slots: &[SlotRow],
+        registers: &[RegisterRow],
+        slot_count: usize,
+        register_count: usize,
+        register: usize,
+    ) -> bool {
+        unsafe { engine_usable(slots.as_ptr(), slot_count, registers.as_ptr(), register_count, register) == 1 }
     }
 }
 

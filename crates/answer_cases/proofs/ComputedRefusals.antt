@@ -66,7 +66,7 @@ refusal10 = 83 ∷ 77 ∷ 33 ∷ 75 ∷ 76 ∷ 69 ∷ 69 ∷ 80 ∷ 75 ∷ 77 �
 abbrev pub EachAnswered : List (List ℕ) → Type 0
 EachAnswered [] = Unit {0}
 EachAnswered (q ∷ qs) =
-    (answerOf (callOf loading (hand q)) ≡ record { outcome = Refused BadForm; response = refusal10; slots = loading .slots; registers = loading .registers }) × EachAnswered qs
+    (answerOf (callOf loading (hand q)) ≡ record { outcome = Refused BadForm; response = λ names. refusal10; slots = loading .slots; registers = loading .registers }) × EachAnswered qs
 
 pub each-answered : EachAnswered requests
 unfolding crcBit crcEight crcByte hexDigit hexValue fromDigits readHex4 sumDigits endsInSum isAlphanumeric areAll isIdentifier isUnpadded isNumber daysIn isDate isTime momentOf timestampOf isTimestamp typed valuesOf contentBytes endsInReturn isWhole isChecked textOf headerOf payloadOf ending framed answered headBytes headers commandOf responseBytes bodyOf field isRecord isAlgorithm table nameOf valueOf fits isCardFrom isMet isIncoming identityInForm keyInForm padded trimmed isVacant attributeOf isRegisterSound isSameKey freeRegister isZeroSlot isNamed isFilledSlot isSlotSound isSameSlot freeSlot filledSlot isOwned areSound isIdentityRight isLoadRequestRight isWellFormed areFieldsOf recordIn areCounts questions refused answerOf

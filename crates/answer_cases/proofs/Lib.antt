@@ -1,6 +1,9 @@
 pub mod Accepted
 pub mod CardRefused
 pub mod ComputedRefusals
+pub mod ComputedReports
 pub mod StoredCard
 pub mod Numbers
 pub mod Statuses
+pub mod Listed
+pub mod Vending

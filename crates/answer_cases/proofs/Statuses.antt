@@ -18,7 +18,7 @@ use Rattle.responses.proofs.ResponseLaws.{response-status}
 use Rattle.engine.specs.Refusals.{Header, silent, general, own, Told, extended, km, sm3b, refusal}
 use Rattle.engine.specs.Requests.{commandIn, fieldsIn, recordIn, slotIn}
 use Rattle.engine.specs.Questions.{Call}
-use Rattle.engine.specs.Answers.{accepted, errorHeader, refusalBytes, answered, effect, refused, answerOf}
+use Rattle.engine.specs.Answers.{accepted, errorHeader, refusalBytes, answered, listed, effect, refused, answerOf}
 use Rattle.engine.specs.Words.{isAccepted}
 use Rattle.engine.specs.declared.Refusal.{Refusal}
 use Rattle.engine.specs.declared.Refusal.the-variants.{RowCounts, ShortBuffer, UnsoundRows, BadSupplement, BadFrame, BadChecksum, UnknownHeader, BadFields, BadRecord, BadForm, Expired, UnknownSlot, NoFreeSlot, WrongState, OtherModule, OtherFingerprint, OtherTvp, OtherTag, CheckFailed, NoFreeRegister, EmptyRegister}
@@ -77,18 +77,18 @@ status-two : (r : Refusal) → 5 ≤ numberOf r → length (refusal r .status) �
 status-two r h = eqb-true (length (refusal r .status)) 2 (rw (lt-leb (numberOf r) 4 h) at (every-refusal (λ (q : Refusal). leb (numberOf q) 4 || eqb (length (refusal q .status)) 2) refl r))
 
 -- A REFUSAL
-module _ (x : Call) (r : Refusal) (e : answerOf x .outcome ≡ Refused r) where
-  refusal-response : answerOf x .response ≡ refusalBytes (x .request) (headerFor (numberOf r)) (refusal r)
+module _ (x : Call) (r : Refusal) (e : answerOf x .outcome ≡ Refused r) (names : List (List ℕ)) where
+  refusal-response : answerOf x .response names ≡ refusalBytes (x .request) (headerFor (numberOf r)) (refusal r)
   unfolding answerOf refused
   refusal-response = rw (refused-by x r e, header-by-number r) refl
 
-  pub none-written : numberOf r ≤ 4 → answerOf x .response ≡ []
+  pub none-written : numberOf r ≤ 4 → answerOf x .response names ≡ []
   none-written h = rw (refusal-response, le-leb (numberOf r) 4 h) refl
 
-  pub under-error-header : 5 ≤ numberOf r → numberOf r ≤ 7 → answerOf x .response ≡ responseBytes errorHeader (refusal r .status) (refusal r .text)
+  pub under-error-header : 5 ≤ numberOf r → numberOf r ≤ 7 → answerOf x .response names ≡ responseBytes errorHeader (refusal r .status) (refusal r .text)
   under-error-header l h = rw (refusal-response, lt-leb (numberOf r) 4 l, le-leb (numberOf r) 7 h) refl
 
-  pub under-own-header : 8 ≤ numberOf r → answerOf x .response ≡ responseBytes (headerOf (x .request)) (refusal r .status) (refusal r .text)
+  pub under-own-header : 8 ≤ numberOf r → answerOf x .response names ≡ responseBytes (headerOf (x .request)) (refusal r .status) (refusal r .text)
   under-own-header l = rw (refusal-response, lt-leb (numberOf r) 4 (omega (arith, l)), lt-leb (numberOf r) 7 l) refl
 
   -- by the group of the question that was the first no: only after a whole message is the header the request's own
@@ -99,7 +99,7 @@ module _ (x : Call) (r : Refusal) (e : answerOf x .outcome ≡ Refused r) where
   status-from own q n l (of-message t w) = let z = message-general x r w in nope (cc)
   status-from own q n l (of-later t y w) = response-status (headerOf (x .request)) (refusal r .status) (refusal r .text) (header-five (x .request) (y .0)) l
 
-  pub status-told : 5 ≤ numberOf r → statusOf (answerOf x .response) ≡ refusal r .status
+  pub status-told : 5 ≤ numberOf r → statusOf (answerOf x .response names) ≡ refusal r .status
   status-told l =
       let n : isSilent (headerFor (numberOf r)) ≡ false = heard (leb (numberOf r) 7) in
       rw refusal-response (status-from (headerFor (numberOf r)) (header-by-number r) n (status-two r l) (refusal-group x r (refused-by x r e)))
@@ -109,41 +109,42 @@ module _ (x : Call) (r : Refusal) (e : answerOf x .outcome ≡ Refused r) where
       heard false = rw (lt-leb (numberOf r) 4 l) refl
 
 -- ACCEPTANCE
-effect-status : (x : Call) → length (headerOf (x .request)) ≡ 5 → (c : Command) (vs : List Value) (r s : List ℕ) → statusOf (effect x c vs r s .response) ≡ accepted
-unfolding answered
-effect-status x l RS vs r s = response-status (headerOf (x .request)) accepted _ l refl
-effect-status x l KC vs r s = response-status (headerOf (x .request)) accepted _ l refl
-effect-status x l KR vs r s = response-status (headerOf (x .request)) accepted _ l refl
-effect-status x l KL vs r s = response-status (headerOf (x .request)) accepted _ l refl
-effect-status x l KF vs r s = response-status (headerOf (x .request)) accepted _ l refl
-effect-status x l KX vs r s = response-status (headerOf (x .request)) accepted _ l refl
-effect-status x l KD vs r s = response-status (headerOf (x .request)) accepted _ l refl
-effect-status x l GA vs r s = response-status (headerOf (x .request)) accepted _ l refl
-effect-status x l GL vs r s = response-status (headerOf (x .request)) accepted _ l refl
-effect-status x l KQ vs r s = response-status (headerOf (x .request)) accepted _ l refl
-effect-status x l Unknown vs r s = response-status (headerOf (x .request)) accepted _ l refl
+effect-status : (names : List (List ℕ)) (x : Call) → length (headerOf (x .request)) ≡ 5 → (c : Command) (vs : List Value) (r s : List ℕ) → statusOf (effect x c vs r s .response names) ≡ accepted
+unfolding answered listed
+effect-status names x l RS vs r s = response-status (headerOf (x .request)) accepted _ l refl
+effect-status names x l KC vs r s = response-status (headerOf (x .request)) accepted _ l refl
+effect-status names x l KR vs r s = response-status (headerOf (x .request)) accepted _ l refl
+effect-status names x l KL vs r s = response-status (headerOf (x .request)) accepted _ l refl
+effect-status names x l KF vs r s = response-status (headerOf (x .request)) accepted _ l refl
+effect-status names x l KX vs r s = response-status (headerOf (x .request)) accepted _ l refl
+effect-status names x l KD vs r s = response-status (headerOf (x .request)) accepted _ l refl
+effect-status names x l GA vs r s = response-status (headerOf (x .request)) accepted _ l refl
+effect-status names x l GL vs r s = response-status (headerOf (x .request)) accepted _ l refl
+effect-status names x l KQ vs r s = response-status (headerOf (x .request)) accepted _ l refl
+effect-status names x l Unknown vs r s = response-status (headerOf (x .request)) accepted _ l refl
 
-module _ (x : Call) where
-  pub accepted-status : isYes (answerOf x .outcome) ≡ true → statusOf (answerOf x .response) ≡ accepted
+-- whatever sequence SM?GL's list has
+module _ (x : Call) (names : List (List ℕ)) where
+  pub accepted-status : isYes (answerOf x .outcome) ≡ true → statusOf (answerOf x .response names) ≡ accepted
   unfolding answerOf
   accepted-status y =
       let c = commandIn (x .request) in
       let vs = fieldsIn (x .request) in
       let n = none-first x y in
-      rw n (effect-status x (header-five (x .request) (yes-of x n .whole)) c vs (recordIn c vs) (slotIn c vs))
+      rw n (effect-status names x (header-five (x .request) (yes-of x n .whole)) c vs (recordIn c vs) (slotIn c vs))
 
   -- an answer reads as accepted exactly where its outcome is acceptance
-  pub accepted-told : isAccepted (answerOf x .response) ≡ isYes (answerOf x .outcome)
+  pub accepted-told : isAccepted (answerOf x .response names) ≡ isYes (answerOf x .outcome)
   unfolding isAccepted
   accepted-told = go (answerOf x .outcome) refl
     where
-      yes : isYes (answerOf x .outcome) ≡ true → isAccepted (answerOf x .response) ≡ true
+      yes : isYes (answerOf x .outcome) ≡ true → isAccepted (answerOf x .response names) ≡ true
       yes y = rw (accepted-status y) refl
 
-      no : (r : Refusal) → answerOf x .outcome ≡ Refused r → isAccepted (answerOf x .response) ≡ false
-      no r e = rw (refusal-response x r e, ← header-by-number r) (refusal-said x r (refused-by x r e))
+      no : (r : Refusal) → answerOf x .outcome ≡ Refused r → isAccepted (answerOf x .response names) ≡ false
+      no r e = rw (refusal-response x r e names, ← header-by-number r) (refusal-said x r (refused-by x r e))
 
-      go : (o : Outcome) → answerOf x .outcome ≡ o → isAccepted (answerOf x .response) ≡ isYes o
+      go : (o : Outcome) → answerOf x .outcome ≡ o → isAccepted (answerOf x .response names) ≡ isYes o
       go (Accepted a) e = yes (rw e refl)
       go Done e = yes (rw e refl)
       go (Refused r) e = no r e

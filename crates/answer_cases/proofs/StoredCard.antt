@@ -19,10 +19,12 @@ use Rattle.attributes.specs.Table.{ACT, BDT, CLM, CLU, DKG, IUT, KCV, KEN, KRN,
 use Rattle.attributes.specs.declared.Presence.the-variants.{Required, Optional, Engine}
 use Rattle.attributes.specs.declared.Attribute.{Attribute}
 use Rattle.stored_cards.specs.Stored.{defaultCard, storedValue, inRow}
-use Rattle.card_laws.proofs.Incoming.{stored-back, required-back}
+use Rattle.card_laws.proofs.Incoming.{stored-back, required-back, stored-measured}
 use Rattle.commands.specs.declared.Command.{Command}
 use Rattle.commands.specs.declared.Command.the-variants.{KL}
+use Rattle.rows.specs.Lists.{trimmed}
 use Rattle.rows.specs.Registers.{attributeOf, freeRegister, filledRegister}
+use Rattle.rows.specs.Reports.{storedIn}
 use Rattle.rows.specs.declared.RegisterRow.{RegisterRow}
 use Rattle.engine.specs.Requests.{commandIn, fieldsIn, recordIn, slotIn, cardIn, registerIn, secondText}
 use Rattle.engine.specs.Questions.{Call}
@@ -165,17 +167,22 @@ module _ (x : Call) (c : commandIn (x .request) ≡ KL) (y : isYes (answerOf x .
     vnd = stored-reads 14 (VND, Engine, Number 9 0 999999999) _ refl;
   }
 
+  -- SM?GA shows it without the zeros: the stored card itself
+  pub shown-card : storedIn row ≡ loadedCard card (x .supplement .check) slot
+  unfolding filledRegister loadedCard trimmed areAll isNumber isUnpadded
+  shown-card = rw row-is (stored-measured card (is-card x vs yes) zero (x .supplement .check) slot zero refl (is-check x vs yes) (is-name x vs yes) refl)
+
   -- the reply's register is that place, counted from 1, and its card the row's, where the count of registers is the rows'
-  module _ (n : x .registerCount ≡ length (x .registers)) where
-    says : fieldsOf (answerOf x .response) ≡ reply x vs yes
+  module _ (n : x .registerCount ≡ length (x .registers)) (names : List (List ℕ)) where
+    says : fieldsOf (answerOf x .response names) ≡ reply x vs yes
     says =
         let v : areValues (reply x vs yes) ≡ true = rw (le-leb (register-at x vs yes .place + 1) 2147483647 (is-low x vs yes n), is-text x vs yes) refl in
-        rw (does, kl-response x vs yes) (response-fields (headerOf (x .request)) accepted (reply x vs yes) (header-five (x .request) (yes .whole)) refl v)
+        rw (does, kl-response x vs yes names) (response-fields (headerOf (x .request)) accepted (reply x vs yes) (header-five (x .request) (yes .whole)) refl v)
 
-    pub answered-register : registerIn (fieldsOf (answerOf x .response)) ≡ place + 1
+    pub answered-register : registerIn (fieldsOf (answerOf x .response names)) ≡ place + 1
     unfolding cardPlace
     answered-register = rw (says, register-at x vs yes .is) refl
 
-    pub answered-card : row .card ≡ inRow (secondText (fieldsOf (answerOf x .response)))
+    pub answered-card : row .card ≡ inRow (secondText (fieldsOf (answerOf x .response names)))
     unfolding filledRegister
     answered-card = rw (says, row-is) refl

@@ -1,9 +1,11 @@
 -- Each case of a decision, with what the code knows where it answers as premises.
 use mathlib.Core.Path.{_≡_, refl, ap}
 use mathlib.Core.Bool.{true}
-use mathlib.Core.List.{List}
+use mathlib.Core.List.{List, [], _∷_}
 use Prim.Native.Nat.{ℕ, _*_, _^_, _≤_, _<_}
 use native.Mathlib.Omega.{arith}
+use types.Run.{OneOf, miss}
+use denote.Enum.Declared.{tagOf}
 use lib.ListN.{length, getD, set}
 use Rattle.fields.specs.Values.{Value}
 use Rattle.stored_cards.specs.Stored.{inRow}
@@ -18,9 +20,9 @@ use Rattle.rows.specs.declared.Tables.{Tables}
 use Rattle.rows.specs.declared.SlotState.the-variants.{Loading, Idle}
 use Rattle.rows.proofs.PlaceCounts.{getD-any}
 use Rattle.engine.specs.Requests.{areFieldsOf, firstText}
-use Rattle.engine.specs.declared.Refusal.{Refusal}
 use Rattle.engine.specs.declared.Decision.{Decision}
-use Rattle.engine.specs.declared.Decision.the-variants.{Refuse, Reset, Pend, Open, Load, Finish, Delete, Clear}
+use Rattle.engine.specs.declared.Decision.the-variants.{Refuse, Reset, Pend, Open, Load, Finish, Delete, Clear, Show, Enumerate, Query}
+use Rattle.engine.proofs.Decision.{the-type}
 use Rattle.request_parts.specs.Parts.{pendingRow, cardOf}
 use Rattle.changes.specs.Changes.{tablesFor, CanChange}
 
@@ -104,10 +106,21 @@ pub ruleset cans = (reset-can, pend-can, pend-fits, pend-fields, open-can, open-
 abbrev tables : Tables → List SlotRow → List RegisterRow → Tables
 tables t slots registers = record { slots = slots; registers = registers; «slot_count» = t .«slot_count»; «register_count» = t .«register_count» }
 
-module _ (d : Decision) (t : Tables) (x : Supplement) (vs : List Value) where
-  pub refused-keeps : (r : Refusal) → d ≡ Refuse r → t ≡ tablesFor d t x vs
-  refused-keeps r e = rw e refl
+-- a refusal, and the commands that only read rows, change nothing
+pub keeps : (d : Decision) (t : Tables) (x : Supplement) (vs : List Value) → OneOf (0 ∷ 8 ∷ 9 ∷ 10 ∷ []) (tagOf the-type d) → t ≡ tablesFor d t x vs
+keeps (Refuse r) t x vs o = refl
+keeps Reset t x vs o = absurd (miss (0 ∷ 8 ∷ 9 ∷ 10 ∷ []) 1 tt o)
+keeps (Pend k) t x vs o = absurd (miss (0 ∷ 8 ∷ 9 ∷ 10 ∷ []) 2 tt o)
+keeps (Open k) t x vs o = absurd (miss (0 ∷ 8 ∷ 9 ∷ 10 ∷ []) 3 tt o)
+keeps (Load k) t x vs o = absurd (miss (0 ∷ 8 ∷ 9 ∷ 10 ∷ []) 4 tt o)
+keeps (Finish k) t x vs o = absurd (miss (0 ∷ 8 ∷ 9 ∷ 10 ∷ []) 5 tt o)
+keeps (Delete k) t x vs o = absurd (miss (0 ∷ 8 ∷ 9 ∷ 10 ∷ []) 6 tt o)
+keeps (Clear k) t x vs o = absurd (miss (0 ∷ 8 ∷ 9 ∷ 10 ∷ []) 7 tt o)
+keeps (Show k) t x vs o = refl
+keeps Enumerate t x vs o = refl
+keeps (Query k) t x vs o = refl
 
+module _ (d : Decision) (t : Tables) (x : Supplement) (vs : List Value) where
   pub reset-made : d ≡ Reset → (l : List SlotRow) → l ≡ mapped (t .«slot_count») resetSlot (t .slots) → tables t l (t .registers) ≡ tablesFor d t x vs
   reset-made e l p = rw (e, p) refl
 

@@ -17,7 +17,7 @@ use Rattle.rows.specs.declared.SlotState.the-variants.{Loading, Idle}
 use Rattle.engine.specs.Requests.{areFieldsOf, firstText}
 use Rattle.request_parts.specs.Parts.{pendingRow, cardOf}
 use Rattle.engine.specs.declared.Decision.{Decision}
-use Rattle.engine.specs.declared.Decision.the-variants.{Refuse, Reset, Pend, Open, Load, Finish, Delete, Clear}
+use Rattle.engine.specs.declared.Decision.the-variants.{Refuse, Reset, Pend, Open, Load, Finish, Delete, Clear, Show, Enumerate, Query}
 
 abbrev pub slotsAfter : Decision → ℕ → List SlotRow → Supplement → List Value → List SlotRow
 slotsAfter (Refuse r) n l x vs = l
@@ -28,6 +28,9 @@ slotsAfter (Load k) n l x vs = l
 slotsAfter (Finish k) n l x vs = set l k (movedSlot Idle (getD l k freeSlot))
 slotsAfter (Delete k) n l x vs = set l k freeSlot
 slotsAfter (Clear k) n l x vs = l
+slotsAfter (Show k) n l x vs = l
+slotsAfter Enumerate n l x vs = l
+slotsAfter (Query k) n l x vs = l
 
 abbrev pub registersAfter : Decision → ℕ → List RegisterRow → Supplement → List Value → List RegisterRow
 registersAfter (Refuse r) m l x vs = l
@@ -38,6 +41,9 @@ registersAfter (Load k) m l x vs = set l k (filledRegister (cardOf x vs))
 registersAfter (Finish k) m l x vs = l
 registersAfter (Delete k) m l x vs = mapped m (withoutSlot (firstText vs)) l
 registersAfter (Clear k) m l x vs = set l k freeRegister
+registersAfter (Show k) m l x vs = l
+registersAfter Enumerate m l x vs = l
+registersAfter (Query k) m l x vs = l
 
 -- both tables
 abbrev pub tablesFor : Decision → Tables → Supplement → List Value → Tables
@@ -58,3 +64,6 @@ CanChange (Load k) t x vs = (k < 32) × ((areFieldsOf KL vs ≡ true) × (length
 CanChange (Finish k) t x vs = k < 8
 CanChange (Delete k) t x vs = (k < 8) × ((t .«register_count» ≤ 32) × (areFieldsOf KF vs ≡ true))
 CanChange (Clear k) t x vs = k < 32
+CanChange (Show k) t x vs = Unit {0}
+CanChange Enumerate t x vs = Unit {0}
+CanChange (Query k) t x vs = Unit {0}

@@ -34,7 +34,7 @@ pub fn change(d: Decision, t: Tables, x: Supplement, p: &[u8]) -> Tables
     let slots = t.slots;
     let registers = t.registers;
     match d {
-        Decision::Refuse(_) => u,
+        Decision::Refuse(_) | Decision::Show(_) | Decision::Enumerate | Decision::Query(_) => u,
         Decision::Reset => {
             let reset = slot_tables::reset_slots(slots, t.slot_count);
             u.slots = reset;

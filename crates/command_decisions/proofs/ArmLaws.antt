@@ -8,7 +8,7 @@ use Rattle.commands.specs.declared.Command.{Command}
 use Rattle.rows.specs.declared.SlotRow.{SlotRow}
 use Rattle.rows.specs.declared.RegisterRow.{RegisterRow}
 use Rattle.rows.specs.declared.Supplement.{Supplement}
-use Rattle.engine.specs.Requests.{isBuilt}
+use Rattle.engine.specs.Requests.{isOneOfTen}
 use Rattle.engine.specs.Questions.{Call}
 use Rattle.engine.specs.Decisions.{decisionFor}
 use Rattle.engine.specs.declared.Decision.{Decision}
@@ -33,6 +33,6 @@ module _ (c o : Command) (e : c ≡ o) (vs : List Value) (d : Decision) where
 
 pub ruleset arms = (arm-fields, arm-slots, arm-registers, arm-session, arm-load)
 
--- a command that is not built does not come so far
-pub no-arm : (c o : Command) → c ≡ o → isBuilt c ≡ true → isBuilt o ≡ false → (k : Call) (vs : List Value) (d : Decision) → d ≡ decisionFor k c vs
+-- a header that is none of the ten does not come so far
+pub no-arm : (c o : Command) → c ≡ o → isOneOfTen c ≡ true → isOneOfTen o ≡ false → (k : Call) (vs : List Value) (d : Decision) → d ≡ decisionFor k c vs
 no-arm c o e p q k vs d = nope (cc)

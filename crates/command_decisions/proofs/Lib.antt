@@ -1,5 +1,1 @@
-pub mod Known
-pub mod Flat
-pub mod Asking
-pub mod DecideLaws
 pub mod ArmLaws

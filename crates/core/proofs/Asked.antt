@@ -4,11 +4,8 @@ use mathlib.Core.Bool.{Bool, true, false}
 use mathlib.Core.List.{List}
 use mathlib.Core.Option.{Option, none, some}
 use Prim.Native.Nat.{ℕ, _-_, _<_}
-use native.Mathlib.Omega.{arith}
-use lib.Dec.{leb}
 use lib.ListN.{length}
-use borrow.Author.Tests.{leb-true}
-use Rattle.octets.proofs.Flags.{nope, and-first, and-second}
+use Rattle.octets.proofs.Flags.{nope}
 use Rattle.commands.specs.declared.Command.{Command}
 use Rattle.rows.specs.Lists.{firstFrom}
 use Rattle.rows.specs.Slots.{hasState, isNamed, freeSlot}
@@ -18,7 +15,7 @@ use Rattle.rows.specs.declared.RegisterRow.{RegisterRow}
 use Rattle.rows.specs.declared.SlotState.the-variants.{Free}
 use Rattle.rows.proofs.ListLaws.{found}
 use Rattle.engine.specs.Requests.{commandIn, fieldsIn, recordIn, slotIn}
-use Rattle.engine.specs.Questions.{Call, placeIn, isPlace, placeElse, slotPlace, freePlace, keyPlace, vacantPlace, sessionPlace, storePlace, slotNamed, isFilled, groupIn, revisionIn, questions, questionsOf}
+use Rattle.engine.specs.Questions.{Call, placeIn, isPlace, placeElse, slotPlace, freePlace, keyPlace, vacantPlace, sessionPlace, storePlace, slotNamed, groupIn, revisionIn, questions, questionsOf}
 use Rattle.engine.specs.Answers.{cardPlace}
 use Rattle.engine.specs.Decisions.{decisionOf}
 use Rattle.engine.specs.declared.Decision.{Decision}
@@ -63,10 +60,3 @@ store-below g k l e = else-below l (keyPlace g k l) (vacantPlace l) (first-below
 pub card-below : (card : List ℕ) (l : List RegisterRow) → isPlace (storePlace (groupIn card) (revisionIn card) l) ≡ true → cardPlace card l < length l
 unfolding cardPlace
 card-below card l e = store-below (groupIn card) (revisionIn card) l e
-
-pub filled-below : (n : ℕ) (l : List RegisterRow) → isFilled n l ≡ true → n - 1 < length l
-unfolding isFilled
-filled-below n l e =
-    let a = leb-true 1 n (and-first (leb 1 n) _ e) in
-    let b = leb-true n (length l) (and-first (leb n (length l)) _ (and-second (leb 1 n) _ e)) in
-    omega arith

@@ -1,23 +1,40 @@
 -- What is done on a decision is what the answer says: outcome, response and rows.
-use mathlib.Core.Path.{_≡_, refl, sym, ap}
+use mathlib.Core.Path.{_≡_, refl, sym, ap, _∙_}
 use mathlib.Core.Bool.{false}
-use Prim.Native.Nat.{ℕ, _-_}
-use Rattle.commands.specs.declared.Command.the-variants.{KC, KR, KL, KF, KX}
+use mathlib.Core.List.{List, [], _∷_}
+use Prim.Native.Nat.{ℕ, _-_, _<_}
+use lib.ListN.{length, getD}
+use Rattle.commands.specs.declared.Command.the-variants.{KC, KR, KL, KF, KX, KQ}
+use Rattle.fields.specs.Values.{string}
+use Rattle.frames.specs.Frames.{headerOf}
+use Rattle.responses.specs.Responses.{responseBytes}
+use Rattle.rows.specs.Places.{slotRows, registerRows}
+use Rattle.rows.specs.Slots.{freeSlot}
+use Rattle.rows.specs.Registers.{freeRegister}
+use Rattle.rows.specs.Reports.{storedIn, slotNames, queryFields}
+use Rattle.rows.specs.declared.SlotRow.{SlotRow}
+use Rattle.rows.specs.declared.RegisterRow.{RegisterRow}
+use Rattle.rows.specs.declared.Supplement.{Supplement}
+use Rattle.rows.specs.declared.Tables.{Tables}
 use Rattle.engine.specs.Requests.{fieldsIn, registerIn, recordIn, slotIn, cardIn}
-use Rattle.engine.specs.Questions.{Call, placeIn, slotPlace, sessionPlace}
-use Rattle.engine.specs.Answers.{Answer, cardPlace, refused, answered, effect, answerOf}
+use Rattle.engine.specs.Questions.{Call, placeIn, slotPlace, sessionPlace, slotNamed, registerNumbered}
+use Rattle.engine.specs.Answers.{Answer, accepted, cardPlace, refused, answered, listed, effect, answerOf}
+use Rattle.engine.specs.Calls.{callIn}
 use Rattle.engine.specs.Decisions.{decisionOf}
 use Rattle.engine.specs.declared.Decision.{Decision}
-use Rattle.engine.specs.declared.Decision.the-variants.{Refuse, Reset, Pend, Open, Load, Finish, Delete, Clear}
+use Rattle.engine.specs.declared.Decision.the-variants.{Refuse, Reset, Pend, Open, Load, Finish, Delete, Clear, Show, Enumerate, Query}
 use Rattle.engine.proofs.DecisionLaws.{commandFor, isRefuse, told, carried}
+use Rattle.engine.proofs.Places.{filled-below}
 use Rattle.responding.specs.Responding.{outcomeFor, responseFor}
+use Rattle.core.proofs.Front.{getD-front}
+use Rattle.core.proofs.Asked.{asked-of, slot-below}
 
 -- the answer of a decision that carries its command out
 pub effect-of : (c : Call) (d : Decision) → decisionOf c ≡ d → isRefuse d ≡ false → effect c (commandFor d) (fieldsIn (c .request)) (recordIn (commandFor d) (fieldsIn (c .request))) (slotIn (commandFor d) (fieldsIn (c .request))) ≡ answerOf c
 effect-of c d e n = sym (carried c d e n .answers)
 
 pub outcome-is : (c : Call) (d : Decision) → decisionOf c ≡ d → outcomeFor d ≡ answerOf c .outcome
-unfolding refused answered
+unfolding refused answered listed
 outcome-is c (Refuse r) e = rw (told c r e) refl
 outcome-is c Reset e = ap (λ (a : Answer). a .outcome) (effect-of c Reset e refl)
 outcome-is c (Pend k) e = ap (λ (a : Answer). a .outcome) (effect-of c (Pend k) e refl)
@@ -26,6 +43,9 @@ outcome-is c (Load k) e = ap (λ (a : Answer). a .outcome) (effect-of c (Load k)
 outcome-is c (Finish k) e = ap (λ (a : Answer). a .outcome) (effect-of c (Finish k) e refl)
 outcome-is c (Delete k) e = ap (λ (a : Answer). a .outcome) (effect-of c (Delete k) e refl)
 outcome-is c (Clear k) e = ap (λ (a : Answer). a .outcome) (effect-of c (Clear k) e refl)
+outcome-is c (Show k) e = ap (λ (a : Answer). a .outcome) (effect-of c (Show k) e refl)
+outcome-is c Enumerate e = ap (λ (a : Answer). a .outcome) (effect-of c Enumerate e refl)
+outcome-is c (Query k) e = ap (λ (a : Answer). a .outcome) (effect-of c (Query k) e refl)
 
 -- the place that a decision names
 abbrev placeFor : Decision → ℕ
@@ -37,6 +57,9 @@ placeFor (Load k) = k
 placeFor (Finish k) = k
 placeFor (Delete k) = k
 placeFor (Clear k) = k
+placeFor (Show k) = k
+placeFor Enumerate = 0
+placeFor (Query k) = k
 
 -- is the place of the rows that the questions found
 pub load-place : (c : Call) (k : ℕ) → decisionOf c ≡ Load k → cardPlace (cardIn (recordIn KL (fieldsIn (c .request)))) (c .registers) ≡ k
@@ -57,13 +80,46 @@ delete-place c k e = ap placeFor (carried c (Delete k) e refl .does)
 pub clear-place : (c : Call) (k : ℕ) → decisionOf c ≡ Clear k → registerIn (fieldsIn (c .request)) - 1 ≡ k
 clear-place c k e = ap placeFor (carried c (Clear k) e refl .does)
 
-pub response-is : (c : Call) (d : Decision) → decisionOf c ≡ d → responseFor d (c .supplement) (c .request) ≡ answerOf c .response
-unfolding refused answered recordIn slotIn
-response-is c (Refuse r) e = rw (told c r e) refl
-response-is c Reset e = ap (λ (a : Answer). a .response) (effect-of c Reset e refl)
-response-is c (Pend k) e = ap (λ (a : Answer). a .response) (effect-of c (Pend k) e refl)
-response-is c (Open k) e = ap (λ (a : Answer). a .response) (effect-of c (Open k) e refl)
-response-is c (Load k) e = rw (load-place c k e) at (ap (λ (a : Answer). a .response) (effect-of c (Load k) e refl))
-response-is c (Finish k) e = ap (λ (a : Answer). a .response) (effect-of c (Finish k) e refl)
-response-is c (Delete k) e = ap (λ (a : Answer). a .response) (effect-of c (Delete k) e refl)
-response-is c (Clear k) e = ap (λ (a : Answer). a .response) (effect-of c (Clear k) e refl)
+pub show-place : (c : Call) (k : ℕ) → decisionOf c ≡ Show k → registerIn (fieldsIn (c .request)) - 1 ≡ k
+show-place c k e = ap placeFor (carried c (Show k) e refl .does)
+
+pub query-place : (c : Call) (k : ℕ) → decisionOf c ≡ Query k → placeIn (c .slots) (slotPlace (slotIn KQ (fieldsIn (c .request))) (c .slots)) ≡ k
+query-place c k e = ap placeFor (carried c (Query k) e refl .does)
+
+-- the response, over tables by value; SM?GL's list is in the sequence of the rows
+module _ (t : Tables) (x : Supplement) (q : List ℕ) (room : ℕ) where
+  abbrev k₀ : Call
+  k₀ = callIn t x q room
+
+  abbrev names : List (List ℕ)
+  names = slotNames (slotRows t)
+
+  abbrev said : Answer → List ℕ
+  said a = a .response names
+
+  shown : (k : ℕ) → decisionOf k₀ ≡ Show k → getD (t .registers) k freeRegister ≡ registerNumbered (registerIn (fieldsIn q)) (registerRows t)
+  shown k e =
+      let w = show-place k₀ k e in
+      let h : k < length (registerRows t) = rw (← w) (filled-below (registerIn (fieldsIn q)) (registerRows t) (asked-of k₀ (Show k) e refl .1 .1 .1 .1 .1 .1 .1 .1 .1 .1 .1 .1 .1 .1 .1 .1 .1 .1 .1 .1 .0)) in
+      rw w (getD-front (t .«register_count») (t .registers) k freeRegister h)
+
+  queried : (k : ℕ) → decisionOf k₀ ≡ Query k → getD (t .slots) k freeSlot ≡ slotNamed (slotIn KQ (fieldsIn q)) (slotRows t)
+  unfolding slotNamed
+  queried k e =
+      let w = query-place k₀ k e in
+      let h : k < length (slotRows t) = rw (← w) (slot-below (slotIn KQ (fieldsIn q)) (slotRows t) (asked-of k₀ (Query k) e refl .1 .1 .1 .1 .1 .1 .1 .1 .1 .1 .1 .0)) in
+      rw w (getD-front (t .«slot_count») (t .slots) k freeSlot h)
+
+  pub response-is : (d : Decision) → decisionOf k₀ ≡ d → responseFor d t x q ≡ answerOf k₀ .response names
+  unfolding refused answered listed recordIn slotIn
+  response-is (Refuse r) e = rw (told k₀ r e) refl
+  response-is Reset e = ap said (effect-of k₀ Reset e refl)
+  response-is (Pend k) e = ap said (effect-of k₀ (Pend k) e refl)
+  response-is (Open k) e = ap said (effect-of k₀ (Open k) e refl)
+  response-is (Load k) e = rw (load-place k₀ k e) at (ap said (effect-of k₀ (Load k) e refl))
+  response-is (Finish k) e = ap said (effect-of k₀ (Finish k) e refl)
+  response-is (Delete k) e = ap said (effect-of k₀ (Delete k) e refl)
+  response-is (Clear k) e = ap said (effect-of k₀ (Clear k) e refl)
+  response-is (Show k) e = ap (λ (r : RegisterRow). responseBytes (headerOf q) accepted (string (storedIn r) ∷ [])) (shown k e) ∙ ap said (effect-of k₀ (Show k) e refl)
+  response-is Enumerate e = ap said (effect-of k₀ Enumerate e refl)
+  response-is (Query k) e = ap (λ (r : SlotRow). responseBytes (headerOf q) accepted (queryFields r (registerRows t))) (queried k e) ∙ ap said (effect-of k₀ (Query k) e refl)

@@ -28,7 +28,7 @@ use Rattle.engine.specs.Requests.{commandIn, fieldsIn}
 use Rattle.responses.specs.Responses.{statusOf}
 use Rattle.frames.specs.Frames.{textOf}
 use Rattle.engine.specs.Questions.{Call, areCounts, questions, firstNo}
-use Rattle.engine.specs.Answers.{Answer, slotsOpened, slotsWithout, refused, answered, effect, answerTo, answerOf}
+use Rattle.engine.specs.Answers.{Answer, slotsOpened, slotsWithout, refused, answered, listed, effect, answerTo, answerOf}
 use Rattle.engine.specs.Words.{requestOf, isAccepted, Handed, Lent, callOf, rowsAfter, itemAt, emptyRows}
 use Rattle.engine.specs.declared.Refusal.{Refusal}
 use Rattle.engine.specs.declared.Refusal.the-variants.{RowCounts}
@@ -40,7 +40,7 @@ abbrev Counted : Call → Answer → Type 0
 Counted x a = (length (a .slots) ≡ length (x .slots)) × (length (a .registers) ≡ length (x .registers))
 
 effect-counted : (x : Call) (c : Command) (vs : List Value) (r s : List ℕ) → Counted x (effect x c vs r s)
-unfolding answered slotsOpened slotsWithout
+unfolding answered listed slotsOpened slotsWithout
 effect-counted x RS vs r s = (length-map (x .slots) _, refl)
 effect-counted x KC vs r s = (length-set (x .slots) _ _, refl)
 effect-counted x KR vs r s = (length-set (x .slots) _ _, refl)

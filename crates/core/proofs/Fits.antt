@@ -18,42 +18,37 @@ use Rattle.records.specs.Records.{field}
 use Rattle.identities.specs.Identities.{colon, identityInForm}
 use Rattle.key_records.specs.KeyRecords.{bar, publicKeyInForm, responseInForm}
 use Rattle.commands.specs.declared.Command.{Command}
-use Rattle.commands.specs.declared.Command.the-variants.{RS, KC, KR, KL, KF, KX, KD}
+use Rattle.commands.specs.declared.Command.the-variants.{RS, KC, KR, KL, KF, KX, KD, GA, GL, KQ}
 use Rattle.payloads.proofs.PayloadLaws.{text-fields}
 use Rattle.rows.specs.Supplements.{isWellFormed, isIdentityRight, isLoadRequestRight}
 use Rattle.rows.specs.declared.Supplement.{Supplement}
 use Rattle.rows.specs.declared.Tables.{Tables}
 use Rattle.engine.specs.Refusals.{Header, silent, general, own, refusal}
 use Rattle.engine.specs.Requests.{fieldsIn, registerIn, recordIn, slotIn, cardIn, firstText}
-use Rattle.engine.specs.Questions.{Call, areCounts}
+use Rattle.engine.specs.Questions.{Call}
 use Rattle.engine.specs.Calls.{callIn}
 use Rattle.engine.specs.Decisions.{decisionOf}
 use Rattle.engine.specs.declared.Refusal.{Refusal}
 use Rattle.engine.specs.declared.Decision.{Decision}
-use Rattle.engine.specs.declared.Decision.the-variants.{Refuse, Reset, Pend, Open, Load, Finish, Delete, Clear}
+use Rattle.engine.specs.declared.Decision.the-variants.{Refuse, Reset, Pend, Open, Load, Finish, Delete, Clear, Show, Enumerate, Query}
 use Rattle.engine.proofs.DecisionLaws.{commandFor, isRefuse, carried, refused-first}
 use Rattle.engine.proofs.RefusalLaws.{isSilent, isOwn, Group, of-tables, of-message, of-later, refusal-group, tables-silent, message-general}
 use Rattle.engine.proofs.Steps.{Yes, yes-of, is-short}
 use Rattle.refusals.specs.Tellings.{CanTell}
 use Rattle.refusals.proofs.TellingLaws.{can-tell}
 use Rattle.request_parts.specs.Parts.{cardOf}
-use Rattle.responding.specs.Responding.{HasRoom, CanRespond}
+use Rattle.session_replies.specs.Room.{HasRoom}
+use Rattle.responding.specs.Responding.{CanRespond}
 use Rattle.changes.specs.Changes.{CanChange}
-use Rattle.core.proofs.DoneBy.{load-place, pend-place, open-place, finish-place, delete-place, clear-place}
-use Rattle.core.proofs.Asked.{Asked, asked-of, slot-below, session-below, card-below, filled-below}
+use Rattle.engine.proofs.Places.{filled-below}
+use Rattle.row_counts.proofs.CountLaws.{slots-few, registers-few}
+use Rattle.core.proofs.DoneBy.{load-place, pend-place, open-place, finish-place, delete-place, clear-place, show-place, query-place}
+use Rattle.core.proofs.Asked.{Asked, asked-of, slot-below, session-below, card-below}
 
 -- a request that is whole has ten bytes at least
 whole-ten : (q : List ℕ) → isWhole q ≡ true → 10 ≤ length q
 unfolding isWhole
 whole-ten q e = leb-true 10 (length q) (and-first (leb 10 (length q)) _ e)
-
-few-slots : (n m : ℕ) → areCounts n m ≡ true → n ≤ 8
-unfolding areCounts
-few-slots n m e = leb-true n 8 (and-first (leb n 8) _ (and-second (leb 1 n) _ e))
-
-few-registers : (n m : ℕ) → areCounts n m ≡ true → m ≤ 32
-unfolding areCounts
-few-registers n m e = leb-true m 32 (and-second (leb 1 m) (leb m 32) (and-second (leb n 8) _ (and-second (leb 1 n) _ e)))
 
 -- the KMCID of an identity in form has 40 bytes at most
 identity-short : (s : List ℕ) → identityInForm s ≡ true → length (field colon 2 s) ≤ 40
@@ -121,13 +116,13 @@ module _ (t : Tables) (x : Supplement) (q : List ℕ) (room : ℕ) where
   -- a place among the rows is one of the places
   slot-place : (o : Command) → Asked k₀ o → (k i : ℕ) → i ≡ k → i < length (take (t .«slot_count») (t .slots)) → k < 8
   slot-place o y k i e h =
-      let a = few-slots (t .«slot_count») (t .«register_count») (y .0) in
+      let a = slots-few (t .«slot_count») (t .«register_count») (y .0) in
       let b = take-short (t .«slot_count») (t .slots) in
       omega arith
 
   register-place : (o : Command) → Asked k₀ o → (k i : ℕ) → i ≡ k → i < length (take (t .«register_count») (t .registers)) → k < 32
   register-place o y k i e h =
-      let a = few-registers (t .«slot_count») (t .«register_count») (y .0) in
+      let a = registers-few (t .«slot_count») (t .«register_count») (y .0) in
       let b = take-short (t .«register_count») (t .registers) in
       omega arith
 
@@ -136,7 +131,7 @@ module _ (t : Tables) (x : Supplement) (q : List ℕ) (room : ℕ) where
       let y = asked-of k₀ (Load k) e refl in
       register-place KL y k _ (load-place k₀ k e) (card-below (cardIn (recordIn KL vs)) (k₀ .registers) (y .1 .1 .1 .1 .1 .1 .1 .1 .1 .1 .1 .1 .1 .1 .1 .1 .1 .1 .1 .0))
 
-  pub can-respond : (d : Decision) → decisionOf k₀ ≡ d → CanRespond d x q room
+  pub can-respond : (d : Decision) → decisionOf k₀ ≡ d → CanRespond d t x q room
   unfolding recordIn
   can-respond (Refuse r) e = tells k₀ r e
   can-respond Reset e = has-room k₀ RS (asked-of k₀ Reset e refl)
@@ -152,10 +147,19 @@ module _ (t : Tables) (x : Supplement) (q : List ℕ) (room : ℕ) where
   can-respond (Finish k) e = has-room k₀ KF (asked-of k₀ (Finish k) e refl)
   can-respond (Delete k) e = has-room k₀ KX (asked-of k₀ (Delete k) e refl)
   can-respond (Clear k) e = has-room k₀ KD (asked-of k₀ (Clear k) e refl)
+  can-respond (Show k) e =
+      let y = asked-of k₀ (Show k) e refl in
+      (has-room k₀ GA y, register-place GA y k _ (show-place k₀ k e) (filled-below (registerIn vs) (k₀ .registers) (y .1 .1 .1 .1 .1 .1 .1 .1 .1 .1 .1 .1 .1 .1 .1 .1 .1 .1 .1 .1 .0)))
+  can-respond Enumerate e =
+      let y = asked-of k₀ Enumerate e refl in
+      (has-room k₀ GL y, slots-few (t .«slot_count») (t .«register_count») (y .0))
+  can-respond (Query k) e =
+      let y = asked-of k₀ (Query k) e refl in
+      (has-room k₀ KQ y, (slot-place KQ y k _ (query-place k₀ k e) (slot-below (slotIn KQ vs) (k₀ .slots) (y .1 .1 .1 .1 .1 .1 .1 .1 .1 .1 .1 .0)), registers-few (t .«slot_count») (t .«register_count») (y .0)))
 
   pub can-change : (d : Decision) → decisionOf k₀ ≡ d → CanChange d t x vs
   can-change (Refuse r) e = tt
-  can-change Reset e = few-slots (t .«slot_count») (t .«register_count») (asked-of k₀ Reset e refl .0)
+  can-change Reset e = slots-few (t .«slot_count») (t .«register_count») (asked-of k₀ Reset e refl .0)
   can-change (Pend k) e =
       let y = asked-of k₀ (Pend k) e refl in
       (slot-place KC y k _ (pend-place k₀ k e) (session-below (slotIn KC vs) (k₀ .slots) (y .1 .1 .1 .1 .1 .1 .1 .1 .1 .1 .1 .1 .0)), sym (text-fields KC vs refl) ∙ y .1 .1 .1 .1 .1 .1 .1 .0)
@@ -170,7 +174,10 @@ module _ (t : Tables) (x : Supplement) (q : List ℕ) (room : ℕ) where
       slot-place KF y k _ (finish-place k₀ k e) (slot-below (slotIn KF vs) (k₀ .slots) (y .1 .1 .1 .1 .1 .1 .1 .1 .1 .1 .1 .0))
   can-change (Delete k) e =
       let y = asked-of k₀ (Delete k) e refl in
-      (slot-place KX y k _ (delete-place k₀ k e) (slot-below (slotIn KX vs) (k₀ .slots) (y .1 .1 .1 .1 .1 .1 .1 .1 .1 .1 .1 .0)), (few-registers (t .«slot_count») (t .«register_count») (y .0), sym (text-fields KX vs refl) ∙ y .1 .1 .1 .1 .1 .1 .1 .0))
+      (slot-place KX y k _ (delete-place k₀ k e) (slot-below (slotIn KX vs) (k₀ .slots) (y .1 .1 .1 .1 .1 .1 .1 .1 .1 .1 .1 .0)), (registers-few (t .«slot_count») (t .«register_count») (y .0), sym (text-fields KX vs refl) ∙ y .1 .1 .1 .1 .1 .1 .1 .0))
   can-change (Clear k) e =
       let y = asked-of k₀ (Clear k) e refl in
       register-place KD y k _ (clear-place k₀ k e) (filled-below (registerIn vs) (k₀ .registers) (y .1 .1 .1 .1 .1 .1 .1 .1 .1 .1 .1 .1 .1 .1 .1 .1 .1 .1 .1 .1 .0))
+  can-change (Show k) e = tt
+  can-change Enumerate e = tt
+  can-change (Query k) e = tt

@@ -1,3 +1,4 @@
+pub mod Front
 pub mod DoneBy
 pub mod Asked
 pub mod RowsAfter

@@ -1,11 +1,9 @@
 -- The tables after a decision are the answer's rows, and the places beyond them as they were.
 use mathlib.Core.Path.{_≡_, refl, sym, ap, _∙_}
 use mathlib.Core.Bool.{true}
-use mathlib.Core.List.{List, [], _∷_, _++_}
-use Prim.Native.Nat.{ℕ, zero, suc, _<_}
-use native.Mathlib.Omega.{arith}
+use mathlib.Core.List.{List, _++_}
+use Prim.Native.Nat.{ℕ, _<_}
 use lib.ListN.{length, getD, set, take, drop, take-append-drop}
-use lib.Seq.{set-append-left}
 use Rattle.fields.specs.Values.{Value}
 use Rattle.commands.specs.declared.Command.the-variants.{KC, KR, KF, KX}
 use Rattle.rows.specs.Slots.{freeSlot, movedSlot}
@@ -15,25 +13,17 @@ use Rattle.rows.specs.declared.Supplement.{Supplement}
 use Rattle.rows.specs.declared.Tables.{Tables}
 use Rattle.engine.specs.Requests.{fieldsIn, registerIn, recordIn, slotIn}
 use Rattle.engine.specs.Questions.{Call, placeIn, isPlace, slotPlace, slotNamed}
-use Rattle.engine.specs.Answers.{Answer, slotsMoved, slotsOpened, slotsWithout, refused, answered, effect, answerOf}
+use Rattle.engine.specs.Answers.{Answer, slotsMoved, slotsOpened, slotsWithout, refused, answered, listed, effect, answerOf}
 use Rattle.engine.specs.Calls.{callIn, tablesAfter}
 use Rattle.engine.specs.Decisions.{decisionOf}
 use Rattle.engine.specs.declared.Decision.{Decision}
-use Rattle.engine.specs.declared.Decision.the-variants.{Refuse, Reset, Pend, Open, Load, Finish, Delete, Clear}
+use Rattle.engine.specs.declared.Decision.the-variants.{Refuse, Reset, Pend, Open, Load, Finish, Delete, Clear, Show, Enumerate, Query}
 use Rattle.engine.proofs.DecisionLaws.{commandFor, told}
+use Rattle.engine.proofs.Places.{filled-below}
 use Rattle.changes.specs.Changes.{slotsAfter, registersAfter, tablesFor}
+use Rattle.core.proofs.Front.{set-front, getD-front}
 use Rattle.core.proofs.DoneBy.{effect-of, load-place, pend-place, open-place, finish-place, delete-place, clear-place}
-use Rattle.core.proofs.Asked.{asked-of, slot-below, session-below, card-below, filled-below}
-
--- one of the first n rows is set
-set-front : {A : Type 0} (n : ℕ) (l : List A) (k : ℕ) (v : A) → k < length (take n l) → set l k v ≡ set (take n l) k v ++ drop n l
-set-front {A} n l k v h = ap (λ (z : List A). set z k v) (sym (take-append-drop n l)) ∙ set-append-left (take n l) (drop n l) k v h
-
-getD-front : {A : Type 0} (n : ℕ) (l : List A) (k : ℕ) (d : A) → k < length (take n l) → getD l k d ≡ getD (take n l) k d
-getD-front zero l k d h = absurd (omega arith)
-getD-front (suc n) [] k d h = refl
-getD-front (suc n) (x ∷ xs) zero d h = refl
-getD-front (suc n) (x ∷ xs) (suc k) d h = getD-front n xs k d (omega arith)
+use Rattle.core.proofs.Asked.{asked-of, slot-below, session-below, card-below}
 
 module _ (t : Tables) (x : Supplement) (q : List ℕ) (room : ℕ) where
   abbrev c : Call
@@ -70,7 +60,7 @@ module _ (t : Tables) (x : Supplement) (q : List ℕ) (room : ℕ) where
       rw (getD-front n (t .slots) k freeSlot h, w) (set-front n (t .slots) k (movedSlot a (getD (take n (t .slots)) k freeSlot)) h)
 
   pub tables-are : (d : Decision) → decisionOf c ≡ d → tablesFor d t x vs ≡ tablesAfter t (answerOf c)
-  unfolding refused answered recordIn slotIn slotsOpened slotsWithout
+  unfolding refused answered listed recordIn slotIn slotsOpened slotsWithout
   tables-are (Refuse r) e = rw (told c r e) (same-tables (refused c r) (Refuse r) slots-kept registers-kept)
   tables-are Reset e = same-tables (done Reset) Reset refl registers-kept ∙ ap (tablesAfter t) (effect-of c Reset e refl)
   tables-are (Pend k) e =
@@ -93,3 +83,6 @@ module _ (t : Tables) (x : Supplement) (q : List ℕ) (room : ℕ) where
       let w = clear-place c k e in
       let h : k < length (take m (t .registers)) = rw (← w) (filled-below (registerIn vs) (c .registers) (asked-of c (Clear k) e refl .1 .1 .1 .1 .1 .1 .1 .1 .1 .1 .1 .1 .1 .1 .1 .1 .1 .1 .1 .1 .0)) in
       same-tables (done (Clear k)) (Clear k) slots-kept (rw w (set-front m (t .registers) k freeRegister h)) ∙ ap (tablesAfter t) (effect-of c (Clear k) e refl)
+  tables-are (Show k) e = same-tables (done (Show k)) (Show k) slots-kept registers-kept ∙ ap (tablesAfter t) (effect-of c (Show k) e refl)
+  tables-are Enumerate e = same-tables (done Enumerate) Enumerate slots-kept registers-kept ∙ ap (tablesAfter t) (effect-of c Enumerate e refl)
+  tables-are (Query k) e = same-tables (done (Query k)) (Query k) slots-kept registers-kept ∙ ap (tablesAfter t) (effect-of c (Query k) e refl)

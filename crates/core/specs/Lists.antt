@@ -21,7 +21,7 @@ tablesNext t e = tablesAfter t (answerOf (entryCall t e))
 
 -- the item that its request and its answer are read as
 abbrev pub entryItem : Tables → Handed → model.Item
-entryItem t e = itemOf (e .request) (answerBytes (answerOf (entryCall t e)) (e .buffer))
+entryItem t e = itemOf (e .request) (answerBytes (answerOf (entryCall t e) .response (e .sequence)) (e .buffer))
 
 -- the rows of the tables, read for demand 3
 abbrev pub rowsIn : Tables → model.Tables

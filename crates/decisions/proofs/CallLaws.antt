@@ -4,10 +4,8 @@ use mathlib.Core.Bool.{Bool, true, false, not}
 use mathlib.Core.List.{List}
 use mathlib.Core.Option.{none}
 use Prim.Native.Nat.{ℕ, _≤_, _<_}
-use lib.Dec.{leb}
 use lib.ListN.{take}
-use borrow.Author.Tests.{le-leb, lt-leb, leb-true, not-true, not-false}
-use Rattle.octets.proofs.Flags.{and-first, and-second}
+use borrow.Author.Tests.{le-leb, lt-leb, not-true, not-false}
 use Rattle.fields.specs.Values.{valuesOf}
 use Rattle.frames.specs.Frames.{isWhole, isChecked, headerOf, payloadOf}
 use Rattle.commands.specs.Commands.{commandOf}
@@ -16,7 +14,7 @@ use Rattle.rows.specs.Sound.{areSound}
 use Rattle.rows.specs.Supplements.{isWellFormed}
 use Rattle.rows.specs.declared.Supplement.{Supplement}
 use Rattle.rows.specs.declared.Tables.{Tables}
-use Rattle.engine.specs.Requests.{isBuilt}
+use Rattle.engine.specs.Requests.{isOneOfTen}
 use Rattle.engine.specs.Questions.{Call, areCounts, tableQuestions, messageQuestions, firstNo}
 use Rattle.engine.specs.Calls.{callIn}
 use Rattle.engine.specs.Decisions.{decisionFor, decisionOf}
@@ -25,47 +23,12 @@ use Rattle.engine.specs.declared.Decision.{Decision}
 use Rattle.engine.specs.declared.Decision.the-variants.{Refuse}
 use Rattle.engine.proofs.DecisionLaws.{tables-refused, message-refused, command-decides}
 
--- is_built
-pub built-arm : (c o : Command) → c ≡ o → (b : Bool) → b ≡ isBuilt o → b ≡ isBuilt c
-built-arm c o e b p = rw e p
+-- is_one_of_ten
+pub header-arm : (c o : Command) → c ≡ o → (b : Bool) → b ≡ isOneOfTen o → b ≡ isOneOfTen c
+header-arm c o e b p = rw e p
 
-pub is-built : (c : Command) (b : Bool) → b ≡ isBuilt c → not b ≡ false → isBuilt c ≡ true
-is-built c b p o = sym p ∙ not-false b o
-
--- are_counts
-module _ (n m : ℕ) where
-  pub no-slots : n < 1 → false ≡ areCounts n m
-  unfolding areCounts
-  no-slots h = sym (rw (lt-leb 1 n h))
-
-  module _ (h : 1 ≤ n) where
-    pub many-slots : 8 < n → false ≡ areCounts n m
-    unfolding areCounts
-    many-slots k = sym (rw (le-leb 1 n h, lt-leb n 8 k))
-
-    module _ (k : n ≤ 8) where
-      pub no-registers : m < 1 → false ≡ areCounts n m
-      unfolding areCounts
-      no-registers i = sym (rw (le-leb 1 n h, le-leb n 8 k, lt-leb 1 m i))
-
-      pub registers-counted : 1 ≤ m → leb m 32 ≡ areCounts n m
-      unfolding areCounts
-      registers-counted i = sym (rw (le-leb 1 n h, le-leb n 8 k, le-leb 1 m i))
-
-pub ruleset counted = (no-slots, many-slots, no-registers, registers-counted)
-
--- counts that are in range
-module _ (n m : ℕ) (a : Bool) (p : a ≡ areCounts n m) (o : not a ≡ false) where
-  in-range : areCounts n m ≡ true
-  in-range = sym p ∙ not-false a o
-
-  pub few-slots : n ≤ 8
-  unfolding areCounts
-  few-slots = leb-true n 8 (and-first (leb n 8) _ (and-second (leb 1 n) _ in-range))
-
-  pub few-registers : m ≤ 32
-  unfolding areCounts
-  few-registers = leb-true m 32 (and-second (leb 1 m) (leb m 32) (and-second (leb n 8) _ (and-second (leb 1 n) _ in-range)))
+pub is-one-of-ten : (c : Command) (b : Bool) → b ≡ isOneOfTen c → not b ≡ false → isOneOfTen c ≡ true
+is-one-of-ten c b p o = sym p ∙ not-false b o
 
 -- decide
 module _ (t : Tables) (x : Supplement) (q : List ℕ) (room : ℕ) (a : Bool) (p : a ≡ areCounts (t .«slot_count») (t .«register_count»)) where
@@ -95,7 +58,7 @@ module _ (t : Tables) (x : Supplement) (q : List ℕ) (room : ℕ) (a : Bool) (p
             pub checksum-refused : not e ≡ true → Refuse BadChecksum ≡ decisionOf (callIn t x q room)
             checksum-refused l = message-refused (callIn t x q room) tables-right BadChecksum (rw (← u, not-false d k, ← v, not-true e l))
 
-            module _ (l : not e ≡ false) (head : List ℕ) (w : head ≡ headerOf q) (command : Command) (y : command ≡ commandOf head) (f : Bool) (z : f ≡ isBuilt command) where
+            module _ (l : not e ≡ false) (head : List ℕ) (w : head ≡ headerOf q) (command : Command) (y : command ≡ commandOf head) (f : Bool) (z : f ≡ isOneOfTen command) where
               its-command : commandOf (headerOf q) ≡ command
               its-command = ap commandOf (sym w) ∙ sym y
 

@@ -5,30 +5,13 @@ use engine::Refusal;
 use rows::Supplement;
 use rows::Tables;
 ghost use mathlib.Core.Path.{_≡_};
-ghost use Rattle.engine.specs.Requests.{isBuilt};
-ghost use Rattle.engine.specs.Questions.{areCounts};
+ghost use Rattle.engine.specs.Requests.{isOneOfTen};
 ghost use Rattle.engine.specs.Calls.{callIn};
 ghost use Rattle.engine.specs.Decisions.{decisionOf};
 
-// Question 1: 1 to 8 slots and 1 to 32 registers.
-fn are_counts(n: usize, m: usize) -> bool
-    ensures { λ b. ⌜ b ≡ areCounts n m ⌝ }
-{
-    if n < 1 {
-        return false;
-    }
-    if 8 < n {
-        return false;
-    }
-    if m < 1 {
-        return false;
-    }
-    m <= 32
-}
-
-// Question 7: whether the command is one of those that are answered.
-fn is_built(c: Command) -> bool
-    ensures { λ b. ⌜ b ≡ isBuilt c ⌝ }
+// Question 7: whether the header is one of the ten.
+fn is_one_of_ten(c: Command) -> bool
+    ensures { λ b. ⌜ b ≡ isOneOfTen c ⌝ }
 {
     match c {
         Command::RS => true,
@@ -38,9 +21,9 @@ fn is_built(c: Command) -> bool
         Command::KF => true,
         Command::KX => true,
         Command::KD => true,
-        Command::GA => false,
-        Command::GL => false,
-        Command::KQ => false,
+        Command::GA => true,
+        Command::GL => true,
+        Command::KQ => true,
         Command::Unknown => false,
     }
 }
@@ -51,7 +34,7 @@ pub fn decide(t: Tables, x: Supplement, request: &[u8], room: usize) -> Decision
 {
     let n = t.slot_count;
     let m = t.register_count;
-    if !are_counts(n, m) {
+    if !row_counts::are_counts(n, m) {
         return Decision::Refuse(Refusal::RowCounts);
     }
     if room < 1024 {
@@ -72,7 +55,7 @@ pub fn decide(t: Tables, x: Supplement, request: &[u8], room: usize) -> Decision
         return Decision::Refuse(Refusal::BadChecksum);
     }
     let c = commands::command_of(frames::header(request));
-    if !is_built(c) {
+    if !is_one_of_ten(c) {
         return Decision::Refuse(Refusal::UnknownHeader);
     }
     command_decisions::decide_command(c, slots, n, registers, m, x, frames::payload(request))

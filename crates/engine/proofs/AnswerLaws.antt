@@ -1,4 +1,4 @@
--- What every answer keeps to: eighteen yeses are acceptance, a refusal changes no row, SM?KR no register, and status 28 needs full registers.
+-- What every answer keeps to: eighteen yeses are acceptance, a refusal changes no row, nor does a command that only reads them, SM?KR no register, and status 28 needs full registers.
 use mathlib.Core.Path.{_≡_, refl}
 use mathlib.Core.Logic.{_⊎_, inl, inr, _↔_}
 use mathlib.Core.Bool.{Bool, true, false, cond, _&&_, _||_}
@@ -15,7 +15,7 @@ use Rattle.rows.specs.Registers.{isVacant, isKeyOf}
 use Rattle.engine.specs.Refusals.{refusal}
 use Rattle.engine.specs.Requests.{isAmong, commandIn, fieldsIn, recordIn, slotIn, cardIn}
 use Rattle.engine.specs.Questions.{Call, Question, _otherwise_, asked, isPlace, placeElse, keyPlace, vacantPlace, storePlace, groupIn, revisionIn, questions, firstNo}
-use Rattle.engine.specs.Answers.{answered, effect, refused, answerTo, answerOf}
+use Rattle.engine.specs.Answers.{answered, listed, effect, refused, answerTo, answerOf}
 use Rattle.engine.specs.declared.Refusal.{Refusal}
 use Rattle.engine.specs.declared.Refusal.the-variants.{NoFreeRegister}
 use Rattle.engine.specs.declared.Outcome.{Outcome}
@@ -32,7 +32,7 @@ yes-all [] y = refl
 yes-all ((b otherwise r) ∷ qs) y = rw (y .0) (yes-all qs (y .1))
 
 effect-yes : (x : Call) (c : Command) (vs : List Value) (r s : List ℕ) → isYes (effect x c vs r s .outcome) ≡ true
-unfolding answered
+unfolding answered listed
 effect-yes x RS vs r s = refl
 effect-yes x KC vs r s = refl
 effect-yes x KR vs r s = refl
@@ -87,6 +87,29 @@ module _ (x : Call) where
       go : (o : Option Refusal) (d : Command) → d ≡ KR → answerTo x o d vs .registers ≡ x .registers
       go (some r) d q = refl
       go none d q = rw q refl
+
+-- SM?GA, SM?GL and SM?KQ change no row
+effect-reads : (x : Call) (c : Command) (vs : List Value) (r s : List ℕ) → isAmong c (GA ∷ GL ∷ KQ ∷ []) ≡ true → (effect x c vs r s .slots ≡ x .slots) × (effect x c vs r s .registers ≡ x .registers)
+unfolding answered listed
+effect-reads x RS vs r s e = nope (cc)
+effect-reads x KC vs r s e = nope (cc)
+effect-reads x KR vs r s e = nope (cc)
+effect-reads x KL vs r s e = nope (cc)
+effect-reads x KF vs r s e = nope (cc)
+effect-reads x KX vs r s e = nope (cc)
+effect-reads x KD vs r s e = nope (cc)
+effect-reads x GA vs r s e = (refl, refl)
+effect-reads x GL vs r s e = (refl, refl)
+effect-reads x KQ vs r s e = (refl, refl)
+effect-reads x Unknown vs r s e = nope (cc)
+
+pub reads-keep : (x : Call) → isAmong (commandIn (x .request)) (GA ∷ GL ∷ KQ ∷ []) ≡ true → (answerOf x .slots ≡ x .slots) × (answerOf x .registers ≡ x .registers)
+unfolding answerOf refused
+reads-keep x e = go (firstNo (questions x))
+  where
+    go : (o : Option Refusal) → (answerTo x o (commandIn (x .request)) (fieldsIn (x .request)) .slots ≡ x .slots) × (answerTo x o (commandIn (x .request)) (fieldsIn (x .request)) .registers ≡ x .registers)
+    go (some r) = (refl, refl)
+    go none = effect-reads x (commandIn (x .request)) (fieldsIn (x .request)) _ _ e
 
 -- a question that was not a yes has the refusal of the first no
 abbrev pub allHold : (Refusal → Bool) → List Question → Bool

@@ -9,14 +9,14 @@ use Rattle.fields.specs.Values.{Value}
 use Rattle.frames.specs.Frames.{isWhole, isChecked}
 use Rattle.commands.specs.declared.Command.{Command}
 use Rattle.commands.specs.declared.Command.the-variants.{RS, KC, KR, KL, KF, KX, KD, GA, GL, KQ, Unknown}
-use Rattle.engine.specs.Requests.{isBuilt, commandIn, fieldsIn, recordIn, slotIn}
+use Rattle.engine.specs.Requests.{isOneOfTen, commandIn, fieldsIn, recordIn, slotIn}
 use Rattle.engine.specs.Questions.{Call, Question, _otherwise_, tableQuestions, messageQuestions, questions, firstNo}
 use Rattle.engine.specs.Answers.{effect, refused, answerTo, answerOf}
 use Rattle.engine.specs.Decisions.{decided, granted, laterQuestions, decisionFor, decisionOf}
 use Rattle.engine.specs.declared.Refusal.{Refusal}
 use Rattle.engine.specs.declared.Refusal.the-variants.{UnknownHeader}
 use Rattle.engine.specs.declared.Decision.{Decision}
-use Rattle.engine.specs.declared.Decision.the-variants.{Refuse, Reset, Pend, Open, Load, Finish, Delete, Clear}
+use Rattle.engine.specs.declared.Decision.the-variants.{Refuse, Reset, Pend, Open, Load, Finish, Delete, Clear, Show, Enumerate, Query}
 use Rattle.engine.proofs.QuestionLaws.{AllYes, all-yes}
 
 -- questions in two groups: the first no of the first, else of the second
@@ -39,6 +39,9 @@ commandFor (Load k) = KL
 commandFor (Finish k) = KF
 commandFor (Delete k) = KX
 commandFor (Clear k) = KD
+commandFor (Show k) = GA
+commandFor Enumerate = GL
+commandFor (Query k) = KQ
 
 abbrev pub isRefuse : Decision → Bool
 isRefuse (Refuse r) = true
@@ -49,9 +52,12 @@ isRefuse (Load k) = false
 isRefuse (Finish k) = false
 isRefuse (Delete k) = false
 isRefuse (Clear k) = false
+isRefuse (Show k) = false
+isRefuse Enumerate = false
+isRefuse (Query k) = false
 
 module _ (x : Call) (vs : List Value) (r s : List ℕ) where
-  granted-for : (c : Command) → isBuilt c ≡ true → (commandFor (granted x c vs r s) ≡ c) × (isRefuse (granted x c vs r s) ≡ false)
+  granted-for : (c : Command) → isOneOfTen c ≡ true → (commandFor (granted x c vs r s) ≡ c) × (isRefuse (granted x c vs r s) ≡ false)
   granted-for RS e = (refl, refl)
   granted-for KC e = (refl, refl)
   granted-for KR e = (refl, refl)
@@ -59,9 +65,9 @@ module _ (x : Call) (vs : List Value) (r s : List ℕ) where
   granted-for KF e = (refl, refl)
   granted-for KX e = (refl, refl)
   granted-for KD e = (refl, refl)
-  granted-for GA e = nope (cc)
-  granted-for GL e = nope (cc)
-  granted-for KQ e = nope (cc)
+  granted-for GA e = (refl, refl)
+  granted-for GL e = (refl, refl)
+  granted-for KQ e = (refl, refl)
   granted-for Unknown e = nope (cc)
 
 -- what is known where a decision is to carry out its command
@@ -104,9 +110,9 @@ module _ (x : Call) where
     unfolding decisionOf decisionFor
     command-decides e d p = p ∙ sym (rw (groups, t, e))
 
-  built : AllYes (questions x) → isBuilt c ≡ true
+  one-of-ten : AllYes (questions x) → isOneOfTen c ≡ true
   unfolding questions
-  built y = y .1 .1 .1 .1 .1 .1 .0
+  one-of-ten y = y .1 .1 .1 .1 .1 .1 .0
 
   pub refused-first : (r : Refusal) → decisionOf x ≡ Refuse r → firstNo (questions x) ≡ some r
   unfolding decisionOf
@@ -114,7 +120,7 @@ module _ (x : Call) where
     where
       go : (o : Option Refusal) → firstNo (questions x) ≡ o → decided o (granted x c vs (recordIn c vs) (slotIn c vs)) ≡ Refuse r → o ≡ some r
       go (some q) w p = cc
-      go none w p = let g = granted-for x vs (recordIn c vs) (slotIn c vs) c (built (all-yes (questions x) w)) .1 in nope (cc)
+      go none w p = let g = granted-for x vs (recordIn c vs) (slotIn c vs) c (one-of-ten (all-yes (questions x) w)) .1 in nope (cc)
 
   pub told : (r : Refusal) → decisionOf x ≡ Refuse r → answerOf x ≡ refused x r
   unfolding answerOf
@@ -128,5 +134,5 @@ module _ (x : Call) where
       go (some q) w p = nope (cc)
       go none w p =
           let y = all-yes (questions x) w in
-          let g : c ≡ commandFor d = sym (granted-for x vs (recordIn c vs) (slotIn c vs) c (built y) .0) ∙ ap commandFor p in
+          let g : c ≡ commandFor d = sym (granted-for x vs (recordIn c vs) (slotIn c vs) c (one-of-ten y) .0) ∙ ap commandFor p in
           record { none-first = w; yeses = y; command = g; does = rw (← g) p; answers = rw (w, ← g) refl }

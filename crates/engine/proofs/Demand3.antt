@@ -1,4 +1,4 @@
--- DEMAND 3 of the engine: for every list of calls, from empty tables of all row counts, whatever the requests, supplements and buffers hold.
+-- DEMAND 3 of the engine: for every list of calls, from empty tables of all row counts, whatever the requests, supplements and buffers hold, and whatever sequence SM?GL's list has.
 use mathlib.Core.Path.{_≡_, refl, sym, _∙_}
 use mathlib.Core.List.{List, [], _∷_, _++_}
 use Prim.Native.Nat.{ℕ}
@@ -12,20 +12,20 @@ use Rattle.history.specs.Model.{Tables, Item, empty}
 use Rattle.history.specs.Step.{Step}
 use Rattle.history.specs.Demand3.{Demand3}
 use Rattle.history.proofs.Theorem as theorem
-use Rattle.engine.specs.Answers.{Answer, answerOf}
+use Rattle.engine.specs.Answers.{answerOf}
 use Rattle.engine.specs.Words.{slotIs, registerIs, tablesOf, Handed, Lent, callOf, rowsAfter, answerBytes, itemAt, emptyRows}
 use Rattle.engine.proofs.RowWords.{free-reads, free-register-reads}
 use Rattle.engine.proofs.Steps.{does}
 
 -- the first bytes of the buffer, as many as the response has, are the response
-answer-is : (a : Answer) (buffer : List ℕ) → answerBytes a buffer ≡ a .response
-answer-is a buffer = take-at (a .response) (drop (length (a .response)) buffer) (length (a .response)) refl
+answer-is : (response buffer : List ℕ) → answerBytes response buffer ≡ response
+answer-is response buffer = take-at response (drop (length response) buffer) (length response) refl
 
 abbrev pub rowsOf : Lent → Tables
 rowsOf t = tablesOf (t .slots) (t .registers)
 
 steps : (t : Lent) (e : Handed) → Step (rowsOf t) (itemAt t e) (rowsOf (rowsAfter t e))
-steps t e = rw (answer-is (answerOf (callOf t e)) (e .buffer)) (does (callOf t e) refl)
+steps t e = rw (answer-is (answerOf (callOf t e) .response (e .sequence)) (e .buffer)) (does (callOf t e) refl (e .sequence))
 
 pub starts-empty : (a b : ℕ) → rowsOf (emptyRows a b) ≡ empty a b
 unfolding emptyRows empty

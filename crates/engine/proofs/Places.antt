@@ -3,9 +3,12 @@ use mathlib.Core.Path.{_≡_, refl, sym, _∙_}
 use mathlib.Core.Bool.{Bool, true, false, not, _&&_}
 use mathlib.Core.List.{List, [], _∷_, map}
 use mathlib.Core.Option.{Option, none, some}
-use Prim.Native.Nat.{ℕ, _<_}
+use Prim.Native.Nat.{ℕ, _-_, _<_}
+use native.Mathlib.Omega.{arith}
+use lib.Dec.{leb}
 use lib.ListN.{length, getD}
-use Rattle.octets.proofs.Flags.{nope}
+use borrow.Author.Tests.{leb-true}
+use Rattle.octets.proofs.Flags.{nope, and-first, and-second}
 use Rattle.text.specs.Classes.{areAll}
 use Rattle.attributes.specs.Table.{KSL}
 use Rattle.rows.specs.Lists.{everyRow, firstFrom}
@@ -17,7 +20,7 @@ use Rattle.rows.specs.declared.SlotState.the-variants.{Free}
 use Rattle.rows.proofs.ListLaws.{found, found-none, every-at}
 use Rattle.history.specs.Model.{State, slotRow, used, vacant, key}
 use Rattle.history.specs.Step.{Spot, own, fresh, Home, held, spare}
-use Rattle.engine.specs.Questions.{slotPlace, freePlace, keyPlace, vacantPlace, isPlace, placeElse, sessionPlace, storePlace}
+use Rattle.engine.specs.Questions.{slotPlace, freePlace, keyPlace, vacantPlace, isPlace, placeElse, sessionPlace, storePlace, isFilled}
 use Rattle.engine.specs.Words.{stateIn, slotIs, registerIs, tablesOf}
 use Rattle.engine.proofs.RowWords.{slot-row, named-reads, reads-named, free-state-reads, free-vacant, register-row, vacant-reads, key-reads, reads-key}
 
@@ -117,3 +120,11 @@ module _ (slots : List SlotRow) (registers : List RegisterRow) (g k : List ℕ) 
   pub home-at : isPlace (storePlace g k registers) ≡ true → HomeAt slots registers g k
   unfolding storePlace
   home-at y = home-from (keyPlace g k registers) (vacantPlace registers) refl refl y
+
+-- a register that is filled is one of the rows
+pub filled-below : (n : ℕ) (l : List RegisterRow) → isFilled n l ≡ true → n - 1 < length l
+unfolding isFilled
+filled-below n l e =
+    let a = leb-true 1 n (and-first (leb 1 n) _ e) in
+    let b = leb-true n (length l) (and-first (leb n (length l)) _ (and-second (leb 1 n) _ e)) in
+    omega arith

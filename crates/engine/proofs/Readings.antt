@@ -1,17 +1,20 @@
 -- How accepted requests are read: one with the header of a command is that event, of its own field.
-use mathlib.Core.Path.{_≡_, refl, ap, _∙_}
+use mathlib.Core.Path.{_≡_, refl}
 use mathlib.Core.Bool.{true}
 use mathlib.Core.List.{List, [], _∷_}
 use Prim.Native.Nat.{ℕ}
+use Rattle.octets.proofs.Flags.{nope}
 use Rattle.identities.specs.Identities.{nameIn}
 use Rattle.stored_cards.specs.Stored.{inRow}
 use Rattle.responses.specs.Responses.{fieldsOf}
 use Rattle.commands.specs.Commands.{headers, commandOf}
+use Rattle.commands.specs.declared.Command.{Command}
+use Rattle.commands.specs.declared.Command.the-variants.{RS, KC, KR, KL, KF, KX, KD, GA, GL, KQ, Unknown}
 use Rattle.frames.specs.Frames.{headerOf}
-use Rattle.history.specs.Model.{kc, kr, kl, kf, kx, kd, rs, refused, done, loaded, _⇒_}
-use Rattle.engine.specs.Requests.{fieldsIn, firstText, secondText, registerIn, recordIn, slotIn, kmcIdentityIn, cardIn}
+use Rattle.history.specs.Model.{kc, kr, kl, kf, kx, kd, rs, other, done, loaded, _⇒_}
+use Rattle.engine.specs.Requests.{isAmong, commandIn, fieldsIn, firstText, secondText, registerIn, recordIn, slotIn, kmcIdentityIn, cardIn}
 use Rattle.engine.specs.Questions.{groupIn, revisionIn}
-use Rattle.engine.specs.Words.{isAccepted, itemOf}
+use Rattle.engine.specs.Words.{requestOf, isAccepted, itemFor, itemOf}
 
 -- q is a request and a an accepted answer to it
 module _ (q a : List ℕ) (y : isAccepted a ≡ true) where
@@ -49,3 +52,20 @@ module _ (q a : List ℕ) (y : isAccepted a ≡ true) where
   pub kd-read : headerOf q ≡ (83 ∷ 77 ∷ 63 ∷ 75 ∷ 68 ∷ []) → itemOf q a ≡ (kd (registerIn (fieldsIn q)) ⇒ done)
   unfolding commandOf headers
   kd-read h = rw (h, y) refl
+
+  -- SM?GA, SM?GL, SM?KQ: commands that change nothing
+  pub others-read : isAmong (commandIn q) (GA ∷ GL ∷ KQ ∷ []) ≡ true → itemOf q a ≡ (other ⇒ done)
+  others-read e = go (commandIn q) e
+    where
+      go : (c : Command) → isAmong c (GA ∷ GL ∷ KQ ∷ []) ≡ true → itemFor (requestOf c (fieldsIn q)) a ≡ (other ⇒ done)
+      go RS e = nope (cc)
+      go KC e = nope (cc)
+      go KR e = nope (cc)
+      go KL e = nope (cc)
+      go KF e = nope (cc)
+      go KX e = nope (cc)
+      go KD e = nope (cc)
+      go GA e = rw y refl
+      go GL e = rw y refl
+      go KQ e = rw y refl
+      go Unknown e = nope (cc)

@@ -25,7 +25,7 @@ use Rattle.stored_cards.specs.Stored.{storedCard, inRow}
 use Rattle.card_laws.proofs.Incoming.{sgc-back, krn-back, ksl-back}
 use Rattle.rows.specs.Lists.{padded, trimmed}
 use Rattle.rows.specs.Slots.{stateNumber, isZeroSlot, hasState, kmcidOf, isNamed, isFilledSlot, isSlotSound, freeSlot, filledSlot, movedSlot, resetSlot}
-use Rattle.rows.specs.Registers.{isVacant, attributeOf, isKeyOf, isUnder, freeRegister, filledRegister, withoutSlot}
+use Rattle.rows.specs.Registers.{isVacant, attributeOf, isKeyOf, isUnder, isRegisterSound, freeRegister, filledRegister, withoutSlot}
 use Rattle.rows.specs.declared.SlotRow.{SlotRow}
 use Rattle.rows.specs.declared.RegisterRow.{RegisterRow}
 use Rattle.rows.specs.declared.SlotState.{SlotState}
@@ -151,6 +151,10 @@ filled-key v e = rw e refl
 pub free-vacant : isVacant freeRegister ≡ true
 unfolding isVacant freeRegister areAll
 free-vacant = refl
+
+pub free-register-sound : isRegisterSound freeRegister ≡ true
+unfolding isRegisterSound
+free-register-sound = rw free-vacant refl
 
 pub free-register-reads : registerIs freeRegister ≡ vacant
 free-register-reads = vacant-reads freeRegister free-vacant

@@ -41,10 +41,10 @@ use Rattle.rows.specs.declared.SlotState.{SlotState}
 use Rattle.rows.specs.declared.SlotState.the-variants.{Pending, Loading, Idle}
 use Rattle.rows.proofs.ListLaws.{map-set, map-sweep, every-true}
 use Rattle.history.specs.Model.{State, pending, loading, idle, used, free, vacant, key, kl, loaded, Item, _⇒_, dropKey, dropSlot, stopped, reset}
-use Rattle.history.specs.Step.{Step, refuses, starts, responds, loads, finishes, deletes, clears, resets}
-use Rattle.engine.specs.Requests.{commandIn, fieldsIn, isBuilt, registerIn, recordIn, kmcIdentityIn, slotIn, cardIn, firstText}
+use Rattle.history.specs.Step.{Step, refuses, reads, starts, responds, loads, finishes, deletes, clears, resets}
+use Rattle.engine.specs.Requests.{commandIn, fieldsIn, isOneOfTen, registerIn, recordIn, kmcIdentityIn, slotIn, cardIn, firstText}
 use Rattle.engine.specs.Questions.{Call, asked, areCounts, isPlace, slotPlace, sessionPlace, storePlace, slotNamed, placeIn, isFilled, groupIn, revisionIn, questions, firstNo}
-use Rattle.engine.specs.Answers.{Answer, accepted, slotsMoved, slotsOpened, slotsWithout, loadedCard, cardPlace, answered, effect, answerTo, answerOf}
+use Rattle.engine.specs.Answers.{Answer, accepted, slotsMoved, slotsOpened, slotsWithout, loadedCard, cardPlace, answered, listed, effect, answerTo, answerOf}
 use Rattle.engine.specs.Answers as answers
 use Rattle.engine.specs.Words.{stateIn, slotIs, registerIs, tablesOf, requestOf, itemFor, isAccepted}
 use Rattle.engine.specs.declared.Refusal.{Refusal}
@@ -57,9 +57,9 @@ use Rattle.engine.proofs.Places.{KnownAt, known-at, sound-at, spot-at, 
 abbrev pub Moves : Call → Item → Answer → Type 0
 Moves x ι a = Step (tablesOf (x .slots) (x .registers)) ι (tablesOf (a .slots) (a .registers))
 
--- an answer to a call with the command c and the fields vs is a step
+-- an answer to a call with the command c and the fields vs is a step, whatever sequence SM?GL's list has
 abbrev pub Does : Call → Command → List Value → Answer → Type 0
-Does x c vs a = Moves x (itemFor (requestOf c vs) (a .response)) a
+Does x c vs a = (names : List (List ℕ)) → Moves x (itemFor (requestOf c vs) (a .response names)) a
 
 -- what is known of an accepted request
 pub record Yes (x : Call) (c : Command) (vs : List Value) : Type 0 where
@@ -67,7 +67,7 @@ pub record Yes (x : Call) (c : Command) (vs : List Value) : Type 0 where
   pub sound : areSound (x .slots) (x .registers) ≡ true
   pub supplement : isWellFormed (x .supplement) ≡ true
   pub whole : isWhole (x .request) ≡ true
-  pub built : isBuilt c ≡ true
+  pub header : isOneOfTen c ≡ true
   pub form : (asked (KC ∷ []) c (publicKeyInForm (recordIn c vs)) && (asked (KR ∷ []) c (responseInForm (recordIn c vs)) && asked (KL ∷ []) c (keyInForm (recordIn c vs)))) ≡ true
   pub known : asked (KR ∷ KL ∷ KF ∷ KX ∷ KQ ∷ []) c (isPlace (slotPlace (slotIn c vs) (x .slots))) ≡ true
   pub spot : asked (KC ∷ []) c (isPlace (sessionPlace (slotIn c vs) (x .slots))) ≡ true
@@ -84,7 +84,7 @@ yes-of x e =
       sound = y .1 .1 .0;
       supplement = y .1 .1 .1 .0;
       whole = y .1 .1 .1 .1 .0;
-      built = y .1 .1 .1 .1 .1 .1 .0;
+      header = y .1 .1 .1 .1 .1 .1 .0;
       form = y .1 .1 .1 .1 .1 .1 .1 .1 .1 .0;
       known = y .1 .1 .1 .1 .1 .1 .1 .1 .1 .1 .1 .0;
       spot = y .1 .1 .1 .1 .1 .1 .1 .1 .1 .1 .1 .1 .0;
@@ -96,9 +96,9 @@ yes-of x e =
 -- a refusal
 does-refused : (x : Call) (c : Command) (vs : List Value) (r : Refusal) → firstNo (questions x) ≡ some r → Does x c vs (answers.refused x r)
 unfolding answers.refused
-does-refused x c vs r e = rw (refusal-said x r e) (refuses (requestOf c vs))
+does-refused x c vs r e names = rw (refusal-said x r e) (refuses (requestOf c vs))
 
-slots-sound : (x : Call) (c : Command) (vs : List Value) → Yes x c vs → everyRow isSlotSound (x .slots) ≡ true
+pub slots-sound : (x : Call) (c : Command) (vs : List Value) → Yes x c vs → everyRow isSlotSound (x .slots) ≡ true
 unfolding areSound
 slots-sound x c vs y = and-first (everyRow isSlotSound (x .slots)) _ (y .sound)
 
@@ -111,10 +111,10 @@ module _ (x : Call) (c : Command) (vs : List Value) (y : Yes x c vs) (k : KnownA
   abbrev s : List ℕ
   s = slotIn c vs
 
-  abbrev v : SlotRow
+  abbrev pub v : SlotRow
   v = getD (x .slots) (k .place) freeSlot
 
-  row-sound : isSlotSound v ≡ true
+  pub row-sound : isSlotSound v ≡ true
   row-sound = sound-at (x .slots) (slots-sound x c vs y) (k .place)
 
   row-reads : getD (map slotIs (x .slots)) (k .place) free ≡ used s (stateIn (v .state))
@@ -149,7 +149,7 @@ key-identity r e = and-first (identityInForm (kmcIdentityIn r)) _ e
 
 does-kc : (x : Call) (vs : List Value) → Yes x KC vs → Does x KC vs (effect x KC vs (recordIn KC vs) (slotIn KC vs))
 unfolding answered slotsOpened recordIn slotIn
-does-kc x vs y =
+does-kc x vs y names =
     let q = kmcIdentityIn (firstText vs) in
     let p = spot-at (x .slots) (x .registers) (nameIn q) (slots-sound x KC vs y) (y .spot) in
     let i = identity-name q (key-identity (firstText vs) (and-first (publicKeyInForm (firstText vs)) _ (y .form))) in
@@ -159,7 +159,7 @@ does-kc x vs y =
 
 does-kr : (x : Call) (vs : List Value) → Yes x KR vs → Does x KR vs (effect x KR vs (recordIn KR vs) (slotIn KR vs))
 unfolding answered
-does-kr x vs y =
+does-kr x vs y names =
     let k = known-at (x .slots) (slotIn KR vs) (y .known) in
     let w : eqb (v x KR vs y k .state) 1 ≡ true = rw (row-is x KR vs y k) at (and-first (hasState Pending (slotNamed (slotIn KR vs) (x .slots))) _ (y .state)) in
     let e : getD (map slotIs (x .slots)) (k .place) free ≡ used (slotIn KR vs) pending = row-reads x KR vs y k ∙ rw w refl in
@@ -167,7 +167,7 @@ does-kr x vs y =
 
 does-kf : (x : Call) (vs : List Value) → Yes x KF vs → Does x KF vs (effect x KF vs (recordIn KF vs) (slotIn KF vs))
 unfolding answered
-does-kf x vs y =
+does-kf x vs y names =
     let k = known-at (x .slots) (slotIn KF vs) (y .known) in
     rw (says-yes x KF vs y, slots-moved x KF vs y k Idle refl) (finishes (slotIn KF vs) (k .place) _ (row-reads x KF vs y k))
 
@@ -182,13 +182,13 @@ rs-slots x vs y = map-sweep slotIs isSlotSound resetSlot stopped reset-reads (x 
 
 does-kx : (x : Call) (vs : List Value) → Yes x KX vs → Does x KX vs (effect x KX vs (recordIn KX vs) (slotIn KX vs))
 unfolding answered dropSlot
-does-kx x vs y =
+does-kx x vs y names =
     let k = known-at (x .slots) (slotIn KX vs) (y .known) in
     rw (says-yes x KX vs y, slots-without x KX vs y k, kx-registers x vs) (deletes (slotIn KX vs) (k .place) _ (row-reads x KX vs y k))
 
 does-rs : (x : Call) (vs : List Value) → Yes x RS vs → Does x RS vs (effect x RS vs (recordIn RS vs) (slotIn RS vs))
 unfolding answered reset
-does-rs x vs y = rw (says-yes x RS vs y, rs-slots x vs y) resets
+does-rs x vs y names = rw (says-yes x RS vs y, rs-slots x vs y) resets
 
 -- a key that is loaded: the rows after it
 module _ (x : Call) (vs : List Value) (y : Yes x KL vs) where
@@ -257,9 +257,9 @@ module _ (x : Call) (vs : List Value) (y : Yes x KL vs) where
   abbrev pub reply : List Value
   reply = number (register-at .place + 1) ∷ string stored ∷ []
 
-  pub kl-response : effect x KL vs (recordIn KL vs) name .response ≡ responseBytes (headerOf (x .request)) accepted reply
+  pub kl-response : (names : List (List ℕ)) → effect x KL vs (recordIn KL vs) name .response names ≡ responseBytes (headerOf (x .request)) accepted reply
   unfolding answered cardPlace
-  kl-response =
+  kl-response names =
       ap (λ (o : Option ℕ). responseBytes (headerOf (x .request)) accepted (number (placeIn (x .registers) o + 1) ∷ string stored ∷ [])) (register-at .is)
 
   -- read back, where the count is the rows'
@@ -274,14 +274,14 @@ module _ (x : Call) (vs : List Value) (y : Yes x KL vs) where
     reply-reads = response-fields (headerOf (x .request)) accepted reply (header-five (x .request) (y .whole)) refl (rw (le-leb (register-at .place + 1) 2147483647 is-low, is-text) refl)
 
     does-kl : Does x KL vs (effect x KL vs (recordIn KL vs) name)
-    does-kl = rw (kl-response, says-yes x KL vs y, reply-reads, add-one (register-at .place)) steps-kl
+    does-kl names = rw (kl-response names, says-yes x KL vs y, reply-reads, add-one (register-at .place)) steps-kl
 
 -- a register that is deleted
 module _ (x : Call) (vs : List Value) (y : Yes x KD vs) where
   does-kd-of : (n : ℕ) → registerIn vs ≡ n → isFilled n (x .registers) ≡ true → Does x KD vs (effect x KD vs (recordIn KD vs) (slotIn KD vs))
   unfolding answered isFilled
-  does-kd-of zero e f = nope (cc)
-  does-kd-of (suc i) e f =
+  does-kd-of zero e f names = nope (cc)
+  does-kd-of (suc i) e f names =
       let m : suc i - 1 ≡ i = omega arith in
       let r = getD (x .registers) i freeRegister in
       let g = rw m at (and-second (leb (suc i) (length (x .registers))) _ (and-second (leb 1 (suc i)) _ f)) in
@@ -292,19 +292,32 @@ module _ (x : Call) (vs : List Value) (y : Yes x KD vs) where
   does-kd : Does x KD vs (effect x KD vs (recordIn KD vs) (slotIn KD vs))
   does-kd = does-kd-of (registerIn vs) refl (y .filled)
 
+-- the three commands that only read rows
+does-ga : (x : Call) (vs : List Value) → Yes x GA vs → Does x GA vs (effect x GA vs (recordIn GA vs) (slotIn GA vs))
+unfolding answered
+does-ga x vs y names = rw (says-yes x GA vs y) reads
+
+does-gl : (x : Call) (vs : List Value) → Yes x GL vs → Does x GL vs (effect x GL vs (recordIn GL vs) (slotIn GL vs))
+unfolding listed
+does-gl x vs y names = rw (says-yes x GL vs y) reads
+
+does-kq : (x : Call) (vs : List Value) → Yes x KQ vs → Does x KQ vs (effect x KQ vs (recordIn KQ vs) (slotIn KQ vs))
+unfolding answered
+does-kq x vs y names = rw (says-yes x KQ vs y) reads
+
 -- each command: some item is its step, whatever the counts are;
 moves-effect : (x : Call) (c : Command) (vs : List Value) → Yes x c vs → (ι : Item) × Moves x ι (effect x c vs (recordIn c vs) (slotIn c vs))
-moves-effect x RS vs y = (_, does-rs x vs y)
-moves-effect x KC vs y = (_, does-kc x vs y)
-moves-effect x KR vs y = (_, does-kr x vs y)
+moves-effect x RS vs y = (_, does-rs x vs y [])
+moves-effect x KC vs y = (_, does-kc x vs y [])
+moves-effect x KR vs y = (_, does-kr x vs y [])
 moves-effect x KL vs y = (loading-step x vs y, steps-kl x vs y)
-moves-effect x KF vs y = (_, does-kf x vs y)
-moves-effect x KX vs y = (_, does-kx x vs y)
-moves-effect x KD vs y = (_, does-kd x vs y)
-moves-effect x GA vs y = let z = y .built in nope (cc)
-moves-effect x GL vs y = let z = y .built in nope (cc)
-moves-effect x KQ vs y = let z = y .built in nope (cc)
-moves-effect x Unknown vs y = let z = y .built in nope (cc)
+moves-effect x KF vs y = (_, does-kf x vs y [])
+moves-effect x KX vs y = (_, does-kx x vs y [])
+moves-effect x KD vs y = (_, does-kd x vs y [])
+moves-effect x GA vs y = (_, does-ga x vs y [])
+moves-effect x GL vs y = (_, does-gl x vs y [])
+moves-effect x KQ vs y = (_, does-kq x vs y [])
+moves-effect x Unknown vs y = let z = y .header in nope (cc)
 
 -- the item that is read off the answer is it where the count of registers is the rows'
 does-effect : (x : Call) → x .registerCount ≡ length (x .registers) → (c : Command) (vs : List Value) → Yes x c vs → Does x c vs (effect x c vs (recordIn c vs) (slotIn c vs))
@@ -315,10 +328,10 @@ does-effect x n KL vs y = does-kl x vs y n
 does-effect x n KF vs y = does-kf x vs y
 does-effect x n KX vs y = does-kx x vs y
 does-effect x n KD vs y = does-kd x vs y
-does-effect x n GA vs y = let z = y .built in nope (cc)
-does-effect x n GL vs y = let z = y .built in nope (cc)
-does-effect x n KQ vs y = let z = y .built in nope (cc)
-does-effect x n Unknown vs y = let z = y .built in nope (cc)
+does-effect x n GA vs y = does-ga x vs y
+does-effect x n GL vs y = does-gl x vs y
+does-effect x n KQ vs y = does-kq x vs y
+does-effect x n Unknown vs y = let z = y .header in nope (cc)
 
 -- THE STEP: every answer to every call
 pub does : (x : Call) → x .registerCount ≡ length (x .registers) → Does x (commandIn (x .request)) (fieldsIn (x .request)) (answerOf x)
@@ -335,5 +348,5 @@ unfolding answerOf
 moves x = go (firstNo (questions x)) refl
   where
     go : (o : Option Refusal) → firstNo (questions x) ≡ o → (ι : Item) × Moves x ι (answerTo x o (commandIn (x .request)) (fieldsIn (x .request)))
-    go (some r) e = (_, does-refused x (commandIn (x .request)) (fieldsIn (x .request)) r e)
+    go (some r) e = (_, does-refused x (commandIn (x .request)) (fieldsIn (x .request)) r e [])
     go none e = moves-effect x (commandIn (x .request)) (fieldsIn (x .request)) (yes-of x e)

@@ -12,6 +12,7 @@ use Rattle.commands.specs.declared.Command.{Command}
 use Rattle.commands.specs.declared.Command.the-variants.{RS, KC, KR, KL, KF, KX, KD, GA, GL, KQ, Unknown}
 use Rattle.rows.specs.Slots.{freeSlot, filledSlot, movedSlot, resetSlot}
 use Rattle.rows.specs.Registers.{freeRegister, filledRegister, withoutSlot}
+use Rattle.rows.specs.Reports.{storedIn, nameFields, queryFields}
 use Rattle.rows.specs.Supplements.{loadRequest}
 use Rattle.rows.specs.declared.SlotRow.{SlotRow}
 use Rattle.rows.specs.declared.RegisterRow.{RegisterRow}
@@ -19,21 +20,22 @@ use Rattle.rows.specs.declared.SlotState.{SlotState}
 use Rattle.rows.specs.declared.SlotState.the-variants.{Free, Pending, Loading, Idle}
 use Rattle.engine.specs.Refusals.{Header, silent, general, own, Told, refusal}
 use Rattle.engine.specs.Requests.{commandIn, fieldsIn, registerIn, recordIn, kmcIdentityIn, slotIn, cardIn}
-use Rattle.engine.specs.Questions.{Call, slotPlace, placeIn, sessionPlace, storePlace, slotNamed, groupIn, revisionIn, questions, firstNo}
+use Rattle.engine.specs.Questions.{Call, slotPlace, placeIn, sessionPlace, storePlace, slotNamed, registerNumbered, groupIn, revisionIn, questions, firstNo}
 use Rattle.engine.specs.declared.Refusal.{Refusal}
 use Rattle.engine.specs.declared.Outcome.{Outcome}
 use Rattle.engine.specs.declared.Outcome.the-variants.{Accepted, Done, Refused}
 
--- outcome, response bytes (none where nothing is written), and all rows after it
+-- outcome, response bytes (none where nothing is written), and all rows after it. Only the sequence of SM?GL's list is free: the response goes by the sequence of the
+-- slots' names, and no other response looks at it
 pub record Answer : Type 0 where
   pub outcome : Outcome
-  pub response : List ℕ
+  pub response : List (List ℕ) → List ℕ
   pub slots : List SlotRow
   pub registers : List RegisterRow
 
 -- the response buffer afterwards: bytes beyond the response keep their value
-abbrev pub bufferAfter : Answer → List ℕ → List ℕ
-bufferAfter a buffer = a .response ++ drop (length (a .response)) buffer
+abbrev pub bufferAfter : List ℕ → List ℕ → List ℕ
+bufferAfter response buffer = response ++ drop (length response) buffer
 
 -- "GL!ER"
 abbrev pub errorHeader : List ℕ
@@ -72,12 +74,17 @@ refusalBytes request own t = responseBytes (headerOf request) (t .status) (t .te
 -- a refusal changes no row
 unfoldable pub refused : Call → Refusal → Answer
 refused x r =
-    record { outcome = Refused r; response = refusalBytes (x .request) (refusal r .header) (refusal r); slots = x .slots; registers = x .registers }
+    record { outcome = Refused r; response = λ names. refusalBytes (x .request) (refusal r .header) (refusal r); slots = x .slots; registers = x .registers }
 
 -- an accepted answer: its outcome, its fields, and the rows after it
 unfoldable pub answered : Call → Outcome → List Value → List SlotRow → List RegisterRow → Answer
 answered x o fields slots registers =
-    record { outcome = o; response = responseBytes (headerOf (x .request)) accepted fields; slots = slots; registers = registers }
+    record { outcome = o; response = λ names. responseBytes (headerOf (x .request)) accepted fields; slots = slots; registers = registers }
+
+-- SM?GL: the names, in the sequence that is chosen
+unfoldable pub listed : Call → Answer
+listed x =
+    record { outcome = Done; response = λ names. responseBytes (headerOf (x .request)) accepted (nameFields names); slots = x .slots; registers = x .registers }
 
 -- what each command does: vs are its fields, r the record among them, s the slot that it names
 abbrev pub effect : Call → Command → List Value → List ℕ → List ℕ → Answer
@@ -92,9 +99,9 @@ effect x KL vs r s =
 effect x KF vs r s = answered x (Accepted Idle) [] (slotsMoved Idle s (x .slots)) (x .registers)
 effect x KX vs r s = answered x (Accepted Free) [] (slotsWithout s (x .slots)) (map (withoutSlot s) (x .registers))
 effect x KD vs r s = answered x Done [] (x .slots) (set (x .registers) (registerIn vs - 1) freeRegister)
-effect x GA vs r s = answered x Done [] (x .slots) (x .registers)
-effect x GL vs r s = answered x Done [] (x .slots) (x .registers)
-effect x KQ vs r s = answered x Done [] (x .slots) (x .registers)
+effect x GA vs r s = answered x Done (string (storedIn (registerNumbered (registerIn vs) (x .registers))) ∷ []) (x .slots) (x .registers)
+effect x GL vs r s = listed x
+effect x KQ vs r s = answered x Done (queryFields (slotNamed s (x .slots)) (x .registers)) (x .slots) (x .registers)
 effect x Unknown vs r s = answered x Done [] (x .slots) (x .registers)
 
 -- all yes: the command is done; else it is refused by the first no

@@ -11,7 +11,7 @@ use Rattle.engine.specs.Answers.{cardPlace}
 use Rattle.engine.specs.declared.Refusal.{Refusal}
 use Rattle.engine.specs.declared.Refusal.the-variants.{UnknownHeader}
 use Rattle.engine.specs.declared.Decision.{Decision}
-use Rattle.engine.specs.declared.Decision.the-variants.{Refuse, Reset, Pend, Open, Load, Finish, Delete, Clear}
+use Rattle.engine.specs.declared.Decision.the-variants.{Refuse, Reset, Pend, Open, Load, Finish, Delete, Clear, Show, Enumerate, Query}
 
 abbrev pub decided : Option Refusal → Decision → Decision
 decided (some r) d = Refuse r
@@ -26,9 +26,9 @@ granted x KL vs r s = Load (cardPlace (cardIn r) (x .registers))
 granted x KF vs r s = Finish (placeIn (x .slots) (slotPlace s (x .slots)))
 granted x KX vs r s = Delete (placeIn (x .slots) (slotPlace s (x .slots)))
 granted x KD vs r s = Clear (registerIn vs - 1)
-granted x GA vs r s = Refuse UnknownHeader
-granted x GL vs r s = Refuse UnknownHeader
-granted x KQ vs r s = Refuse UnknownHeader
+granted x GA vs r s = Show (registerIn vs - 1)
+granted x GL vs r s = Enumerate
+granted x KQ vs r s = Query (placeIn (x .slots) (slotPlace s (x .slots)))
 granted x Unknown vs r s = Refuse UnknownHeader
 
 -- questions 8 to 18, where the message is right and brings the command c with the fields vs

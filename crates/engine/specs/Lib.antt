@@ -6,3 +6,4 @@ pub mod Decisions
 pub mod Calls
 pub mod Outcomes
 pub mod Words
+pub mod Usable

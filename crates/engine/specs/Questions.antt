@@ -14,7 +14,7 @@ use Rattle.key_records.specs.KeyRecords.{parsesPublicKey, publicKeyInForm, pars
 use Rattle.fields.specs.Values.{Value}
 use Rattle.frames.specs.Frames.{isWhole, isChecked}
 use Rattle.commands.specs.declared.Command.{Command}
-use Rattle.commands.specs.declared.Command.the-variants.{RS, KC, KR, KL, KF, KX, KD, GA, GL, KQ, Unknown}
+use Rattle.commands.specs.declared.Command.the-variants.{KC, KR, KL, KF, KX, KD, GA, KQ}
 use Rattle.rows.specs.Lists.{firstFrom}
 use Rattle.rows.specs.Slots.{hasState, isNamed, freeSlot}
 use Rattle.rows.specs.Registers.{isVacant, isKeyOf, freeRegister}
@@ -24,7 +24,7 @@ use Rattle.rows.specs.declared.SlotRow.{SlotRow}
 use Rattle.rows.specs.declared.RegisterRow.{RegisterRow}
 use Rattle.rows.specs.declared.SlotState.the-variants.{Free, Pending, Loading}
 use Rattle.rows.specs.declared.Supplement.{Supplement}
-use Rattle.engine.specs.Requests.{isAmong, commandIn, fieldsIn, isBuilt, areFieldsOf, registerIn, recordIn, kmcIdentityIn, moduleIdentityIn, slotIn, expiryIn, tvpIn, tagIn, cardIn}
+use Rattle.engine.specs.Requests.{isAmong, commandIn, fieldsIn, isOneOfTen, areFieldsOf, registerIn, recordIn, kmcIdentityIn, moduleIdentityIn, slotIn, expiryIn, tvpIn, tagIn, cardIn}
 use Rattle.engine.specs.declared.Refusal.{Refusal}
 use Rattle.engine.specs.declared.Refusal.the-variants.{RowCounts, ShortBuffer, UnsoundRows, BadSupplement, BadFrame, BadChecksum, UnknownHeader, BadFields, BadRecord, BadForm, Expired, UnknownSlot, NoFreeSlot, WrongState, OtherModule, OtherFingerprint, OtherTvp, OtherTag, CheckFailed, NoFreeRegister, EmptyRegister}
 
@@ -87,9 +87,13 @@ revisionIn card = orElse (valueOf KRN card) []
 unfoldable pub areCounts : ℕ → ℕ → Bool
 areCounts slots registers = leb 1 slots && (leb slots 8 && (leb 1 registers && leb registers 32))
 
--- register n, counted from 1, is filled; 0 or beyond the rows is not
+-- register n, counted from 1; a free one past the rows
+abbrev pub registerNumbered : ℕ → List RegisterRow → RegisterRow
+registerNumbered n rows = getD rows (n - 1) freeRegister
+
+-- register n is filled; 0 or beyond the rows is not
 unfoldable pub isFilled : ℕ → List RegisterRow → Bool
-isFilled n rows = leb 1 n && (leb n (length rows) && not (isVacant (getD rows (n - 1) freeRegister)))
+isFilled n rows = leb 1 n && (leb n (length rows) && not (isVacant (registerNumbered n rows)))
 
 -- a question that only some commands are asked
 abbrev pub asked : List Command → Command → Bool → Bool
@@ -114,7 +118,7 @@ abbrev pub messageQuestions : List ℕ → List Question
 messageQuestions request =
     (isWhole request otherwise BadFrame)  -- 5
     ∷ (isChecked request otherwise BadChecksum)  -- 6
-    ∷ (isBuilt (commandIn request) otherwise UnknownHeader)  -- 7
+    ∷ (isOneOfTen (commandIn request) otherwise UnknownHeader)  -- 7
     ∷ []
 
 -- of the payload: vs are its fields, r the record among them

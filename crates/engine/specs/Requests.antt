@@ -37,9 +37,9 @@ commandIn request = commandOf (headerOf request)
 abbrev pub fieldsIn : List ℕ → List Value
 fieldsIn request = valuesOf (payloadOf request)
 
--- the commands that are built; the header of another is none of those answered
-abbrev pub isBuilt : Command → Bool
-isBuilt c = isAmong c (RS ∷ KC ∷ KR ∷ KL ∷ KF ∷ KX ∷ KD ∷ [])
+-- the header is one of the ten
+abbrev pub isOneOfTen : Command → Bool
+isOneOfTen c = isAmong c (RS ∷ KC ∷ KR ∷ KL ∷ KF ∷ KX ∷ KD ∷ GA ∷ GL ∷ KQ ∷ [])
 
 -- types of fields
 abbrev isText : Value → Bool

@@ -1,7 +1,7 @@
 -- How rows, requests and answers are read for demand 3, and the list of calls that it speaks of (document 01, The words of demand 3).
 use Prim.Native.Nat.{ℕ}
 use mathlib.Core.Bool.{Bool, cond}
-use mathlib.Core.List.{List, [], _∷_, map}
+use mathlib.Core.List.{List, map}
 use lib.Dec.{eqb}
 use lib.ListN.{length, take, replicate}
 use Rattle.octets.specs.Strings.{sameBytes}
@@ -98,11 +98,13 @@ itemFor e a = e ⇒ cond (isAccepted a) (saysYes e a) refused
 abbrev pub itemOf : List ℕ → List ℕ → Item
 itemOf request answer = itemFor (requestOf (commandIn request) (fieldsIn request)) answer
 
--- THE LIST: what is handed in at each call; each request with a supplement and a response buffer of its own
+-- THE LIST: what is handed in at each call; each request with a supplement and a response buffer of its own. Beside them stands the sequence that the engine lists the slots in
+-- if it is SM?GL: whatever it is at each call
 pub record Handed : Type 0 where
   pub request : List ℕ
   pub supplement : Supplement
   pub buffer : List ℕ
+  pub sequence : List (List ℕ)
 
 pub record Lent : Type 0 where
   pub slots : List SlotRow
@@ -124,11 +126,11 @@ abbrev pub rowsAfter : Lent → Handed → Lent
 rowsAfter t e = record { slots = answerOf (callOf t e) .slots; registers = answerOf (callOf t e) .registers }
 
 -- the answer to a call: the first bytes of the buffer, as many as the response has, never what lies beyond
-abbrev pub answerBytes : Answer → List ℕ → List ℕ
-answerBytes a buffer = take (length (a .response)) (bufferAfter a buffer)
+abbrev pub answerBytes : List ℕ → List ℕ → List ℕ
+answerBytes response buffer = take (length response) (bufferAfter response buffer)
 
 abbrev pub itemAt : Lent → Handed → Item
-itemAt t e = itemOf (e .request) (answerBytes (answerOf (callOf t e)) (e .buffer))
+itemAt t e = itemOf (e .request) (answerBytes (answerOf (callOf t e) .response (e .sequence)) (e .buffer))
 
 -- empty tables: every row is zero
 unfoldable pub emptyRows : ℕ → ℕ → Lent

@@ -1,5 +1,6 @@
--- The slot state that an answer carries, as a byte: the state's number, or 255 where it carries none.
+-- What is said in numbers: the slot state that an answer carries, as a byte, and a yes or no.
 use Prim.Native.Nat.{ℕ}
+use mathlib.Core.Bool.{Bool, cond}
 use mathlib.Core.Option.{Option, none, some}
 use Rattle.engine.specs.Outcomes.{leaves}
 use Rattle.engine.specs.declared.Outcome.{Outcome}
@@ -8,5 +9,10 @@ abbrev orNone : Option ℕ → ℕ
 orNone (some n) = n
 orNone none = 255
 
+-- the state's number, or 255 where an answer carries none
 abbrev pub stateByte : Outcome → ℕ
 stateByte o = orNone (leaves o)
+
+-- 1 for a yes, 0 for a no
+abbrev pub yesByte : Bool → ℕ
+yesByte b = cond b 1 0

@@ -115,11 +115,11 @@ pub fn store_place(registers: [RegisterRow; 32], m: usize, r: &[u8]) -> Place
     requires { ⌜ m ≤ 32 ⌝ }
     ensures { λ p. ⌜ placeOf p ≡ storePlace (groupIn (cardIn (now (r .entry)))) (revisionIn (cardIn (now (r .entry)))) (take m registers) ⌝ }
 {
-    let held = register_tables::key_place(registers, m, value_in(r, SGC), value_in(r, KRN));
+    let held = register_searches::key_place(registers, m, value_in(r, SGC), value_in(r, KRN));
     if let Place::At(k) = held {
         return Place::At(k);
     }
-    register_tables::vacant_place(registers, m)
+    register_searches::vacant_place(registers, m)
 }
 
 // Whether the slot has a session: PENDING or LOADING.

@@ -1,1 +1,1 @@
-pub mod KeyLaws
+pub mod OwnerLaws

@@ -7,7 +7,7 @@ use lib.ListN.{length, take}
 use lib.Seq.{length-take-le}
 use Rattle.octets.specs.Wrote.{Wrote}
 use Rattle.octets.proofs.Writes.{then, none, take-start}
-use Rattle.fields.specs.Values.{Value, number, string, fieldBytes}
+use Rattle.fields.specs.Values.{Value, number, string, fieldBytes, payloadBytes}
 use Rattle.frames.specs.Frames.{textOf, headerOf, ending, framed, headBytes}
 use Rattle.responses.specs.Responses.{responseBytes}
 
@@ -17,19 +17,26 @@ unfolding framed
 closed l u w = then u (rw (take-start u (omega (arith, u .next))) at w)
 
 -- the head of a response, its fields and its ending
+module _ {d e : List ℕ} {a : ℕ} (h s : List ℕ) (u : Wrote d 0 (headBytes h s) e a) where
+  fields : {f g : List ℕ} {b r : ℕ} (vs : List Value) → Wrote e a (payloadBytes vs) f b → Wrote f b (ending (take b f)) g r → b ≤ length d → Wrote d 0 (responseBytes h s vs) g r
+  unfolding responseBytes
+  fields vs o w l = closed l (then u o) w
+
 module _ {d e : List ℕ} {a : ℕ} (h s : List ℕ) (u : Wrote d 0 (headBytes h s) e a) (i : a ≡ length h + length s) where
   pub replied : {f : List ℕ} {r : ℕ} → Wrote e a (ending (take a e)) f r → length h + length s + 5 ≤ length d → Wrote d 0 (responseBytes h s []) f r
-  unfolding responseBytes
-  replied w l = closed (omega arith) (then u (none e a)) w
+  replied w l = fields h s u [] (none e a) w (omega arith)
 
   module _ {f : List ℕ} {b : ℕ} (x : Value) (o : Wrote e a (fieldBytes x) f b) where
     one-field : {g : List ℕ} {r : ℕ} → Wrote f b (ending (take b f)) g r → b ≤ length d → Wrote d 0 (responseBytes h s (x ∷ [])) g r
-    unfolding responseBytes
-    one-field w l = closed l (then u (then o (none f b))) w
+    one-field w l = fields h s u (x ∷ []) (then o (none f b)) w l
 
     two-fields : {g k : List ℕ} {c r : ℕ} (y : Value) → Wrote f b (fieldBytes y) g c → Wrote g c (ending (take c g)) k r → c ≤ length d → Wrote d 0 (responseBytes h s (x ∷ y ∷ [])) k r
-    unfolding responseBytes
-    two-fields {g} {k} {c} y q w l = closed l (then u (then o (then q (none g c)))) w
+    two-fields {g} {k} {c} y q w l = fields h s u (x ∷ y ∷ []) (then o (then q (none g c))) w l
+
+  -- of fields that take at most k bytes, where the buffer has m bytes beside the header's
+  pub replied-fields : {f g : List ℕ} {b r : ℕ} (vs : List Value) (k m : ℕ) → Wrote e a (payloadBytes vs) f b → b ≤ a + k → Wrote f b (ending (take b f)) g r → length h + m ≤ length d → length s + k ≤ m
+      → Wrote d 0 (responseBytes h s vs) g r
+  replied-fields vs k m o j w l n = fields h s u vs o w (omega arith)
 
   pub replied-text : {f g : List ℕ} {b r : ℕ} (v : List ℕ) → Wrote e a (fieldBytes (string v)) f b → b ≡ a + length v + 2 → Wrote f b (ending (take b f)) g r
       → length h + length s + length v + 7 ≤ length d → Wrote d 0 (responseBytes h s (string v ∷ [])) g r

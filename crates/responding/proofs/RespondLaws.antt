@@ -1,47 +1,100 @@
--- A response is in the words of the request: header and payload are parts of it, so what the code made of these is what the definition says of the request.
-use mathlib.Core.Path.{_≡_, sym, ap, _∙_}
+-- What each arm requires is known of its decision, and what it wrote is the decision's response.
+use mathlib.Core.Path.{_≡_, refl}
 use mathlib.Core.Bool.{true}
 use mathlib.Core.List.{List, [], _∷_}
-use Prim.Native.Nat.{ℕ, _+_, _≤_, _<_}
+use Prim.Native.Nat.{ℕ, _*_, _^_, _≤_, _<_}
 use native.Mathlib.Omega.{arith}
-use lib.ListN.{length, take}
-use lib.Seq.{take-at}
-use borrow.Table.Elements.{take-le}
+use types.Run.{OneOf, miss}
+use denote.Enum.Declared.{tagOf}
+use lib.ListN.{length, getD}
 use Rattle.octets.specs.Wrote.{Wrote}
-use Rattle.fields.specs.Values.{Value, number, string, valuesOf}
-use Rattle.frames.specs.Frames.{headerOf, payloadOf}
+use Rattle.fields.specs.Values.{string}
+use Rattle.frames.specs.Frames.{headerOf}
 use Rattle.responses.specs.Responses.{responseBytes}
-use Rattle.stored_cards.specs.Stored.{inRow}
-use Rattle.commands.specs.declared.Command.{Command}
 use Rattle.commands.specs.declared.Command.the-variants.{KF, KL}
+use Rattle.rows.specs.Places.{registerRows}
+use Rattle.rows.specs.Slots.{freeSlot}
+use Rattle.rows.specs.Registers.{freeRegister}
+use Rattle.rows.specs.Reports.{storedIn, queryFields}
+use Rattle.rows.specs.declared.SlotRow.{SlotRow}
+use Rattle.rows.specs.declared.RegisterRow.{RegisterRow}
 use Rattle.rows.specs.declared.Supplement.{Supplement}
+use Rattle.rows.specs.declared.Tables.{Tables}
+use Rattle.rows.proofs.PlaceCounts.{getD-any}
 use Rattle.refusals.specs.Tellings.{CanTell}
-use Rattle.replies.proofs.ReplyLaws.{header-five}
 use Rattle.engine.specs.Requests.{fieldsIn, areFieldsOf}
 use Rattle.engine.specs.Refusals.{refusal}
 use Rattle.engine.specs.Answers.{accepted}
 use Rattle.engine.specs.declared.Decision.{Decision}
-use Rattle.engine.specs.declared.Decision.the-variants.{Refuse, Reset, Pend, Open, Load, Finish, Delete, Clear}
+use Rattle.engine.specs.declared.Decision.the-variants.{Refuse, Reset, Pend, Open, Load, Finish, Delete, Clear, Show, Enumerate, Query}
 use Rattle.engine.specs.declared.Refusal.{Refusal}
 use Rattle.engine.specs.declared.Outcome.{Outcome}
+use Rattle.engine.specs.declared.Outcome.the-variants.{Done}
+use Rattle.engine.proofs.Decision.{the-type}
 use Rattle.request_parts.specs.Parts.{kmcidOf, cardOf}
-use Rattle.responding.specs.Responding.{outcomeFor, responseFor, HasRoom, CanRespond}
+use Rattle.session_replies.specs.Room.{HasRoom}
+use Rattle.responding.specs.Responding.{outcomeFor, responseFor, CanRespond}
 
 -- an arm of a match: d is the decision e
 module _ (d e : Decision) (p : d ≡ e) where
   pub outcome-arm : (o : Outcome) → o ≡ outcomeFor e → o ≡ outcomeFor d
   outcome-arm o q = rw p q
 
-  pub written-arm : {a b : List ℕ} {n : ℕ} (x : Supplement) (q : List ℕ) → Wrote a 0 (responseFor e x q) b n → Wrote a 0 (responseFor d x q) b n
-  written-arm x q w = rw p w
+  pub written-arm : {a b : List ℕ} {n : ℕ} (t : Tables) (x : Supplement) (q : List ℕ) → Wrote a 0 (responseFor e t x q) b n → Wrote a 0 (responseFor d t x q) b n
+  written-arm t x q w = rw p w
+
+-- the commands that leave no slot state
+abbrev stateless : List ℕ
+stateless = 1 ∷ 7 ∷ 8 ∷ 9 ∷ 10 ∷ []
+
+pub done-arm : (d : Decision) → OneOf stateless (tagOf the-type d) → Done ≡ outcomeFor d
+done-arm (Refuse r) o = absurd (miss stateless 0 tt o)
+done-arm Reset o = refl
+done-arm (Pend k) o = absurd (miss stateless 2 tt o)
+done-arm (Open k) o = absurd (miss stateless 3 tt o)
+done-arm (Load k) o = absurd (miss stateless 4 tt o)
+done-arm (Finish k) o = absurd (miss stateless 5 tt o)
+done-arm (Delete k) o = absurd (miss stateless 6 tt o)
+done-arm (Clear k) o = refl
+done-arm (Show k) o = refl
+done-arm Enumerate o = refl
+done-arm (Query k) o = refl
+
+-- the commands whose response has no field
+abbrev plainOnes : List ℕ
+plainOnes = 1 ∷ 5 ∷ 6 ∷ 7 ∷ []
+
+module _ (t : Tables) (x : Supplement) (q : List ℕ) where
+  pub plain-room : (d : Decision) (m : ℕ) → CanRespond d t x q m → OneOf plainOnes (tagOf the-type d) → HasRoom (length q) m
+  plain-room (Refuse r) m h o = absurd (miss plainOnes 0 tt o)
+  plain-room Reset m h o = h
+  plain-room (Pend k) m h o = h .0
+  plain-room (Open k) m h o = h .0
+  plain-room (Load k) m h o = h .0
+  plain-room (Finish k) m h o = h
+  plain-room (Delete k) m h o = h
+  plain-room (Clear k) m h o = h
+  plain-room (Show k) m h o = h .0
+  plain-room Enumerate m h o = h .0
+  plain-room (Query k) m h o = h .0
+
+  pub plain-arm : {a b : List ℕ} {n : ℕ} (d : Decision) → OneOf plainOnes (tagOf the-type d) → Wrote a 0 (responseBytes (headerOf q) accepted []) b n → Wrote a 0 (responseFor d t x q) b n
+  plain-arm (Refuse r) o w = absurd (miss plainOnes 0 tt o)
+  plain-arm Reset o w = w
+  plain-arm (Pend k) o w = absurd (miss plainOnes 2 tt o)
+  plain-arm (Open k) o w = absurd (miss plainOnes 3 tt o)
+  plain-arm (Load k) o w = absurd (miss plainOnes 4 tt o)
+  plain-arm (Finish k) o w = w
+  plain-arm (Delete k) o w = w
+  plain-arm (Clear k) o w = w
+  plain-arm (Show k) o w = absurd (miss plainOnes 8 tt o)
+  plain-arm Enumerate o w = absurd (miss plainOnes 9 tt o)
+  plain-arm (Query k) o w = absurd (miss plainOnes 10 tt o)
 
 -- what an arm requires is known of its decision
-module _ (d : Decision) (x : Supplement) (q : List ℕ) (m : ℕ) (h : CanRespond d x q m) where
+module _ (d : Decision) (t : Tables) (x : Supplement) (q : List ℕ) (m : ℕ) (h : CanRespond d t x q m) where
   pub refuse-room : (r : Refusal) → d ≡ Refuse r → CanTell (refusal r .header) (length q) m
   refuse-room r p = rw p at h
-
-  pub reset-room : d ≡ Reset → HasRoom (length q) m
-  reset-room p = rw p at h
 
   module _ (k : ℕ) where
     module _ (p : d ≡ Pend k) where
@@ -80,72 +133,45 @@ module _ (d : Decision) (x : Supplement) (q : List ℕ) (m : ℕ) (h : CanRespon
       pub load-place : k < 32
       load-place = (rw p at h) .1 .1 .1
 
-    pub finish-room : d ≡ Finish k → HasRoom (length q) m
-    finish-room p = rw p at h
+    module _ (p : d ≡ Show k) where
+      pub show-room : HasRoom (length q) m
+      show-room = (rw p at h) .0
 
-    pub delete-room : d ≡ Delete k → HasRoom (length q) m
-    delete-room p = rw p at h
+      pub show-place : k < 32
+      show-place = (rw p at h) .1
 
-    pub clear-room : d ≡ Clear k → HasRoom (length q) m
-    clear-room p = rw p at h
+      -- a register row has 256 bytes
+      pub show-fits : k * 256 < 2 ^ 64
+      show-fits = let g = show-place in omega arith
+
+    module _ (p : d ≡ Query k) where
+      pub query-room : HasRoom (length q) m
+      query-room = (rw p at h) .0
+
+      pub query-place : k < 8
+      query-place = (rw p at h) .1 .0
+
+      -- a slot row has 73 bytes
+      pub query-fits : k * 73 < 2 ^ 64
+      query-fits = let g = query-place in omega arith
+
+      pub query-count : t .«register_count» ≤ 32
+      query-count = (rw p at h) .1 .1
+
+  module _ (p : d ≡ Enumerate) where
+    pub enumerate-room : HasRoom (length q) m
+    enumerate-room = (rw p at h) .0
+
+    pub enumerate-count : t .«slot_count» ≤ 8
+    enumerate-count = (rw p at h) .1
 
 pub ruleset known =
-    (refuse-room, reset-room, pend-room, pend-fields, pend-kmcid, pend-request, open-room, open-fields, open-kmcid, load-room, load-fields, load-card, load-place, finish-room, delete-room, clear-room)
+    (refuse-room, pend-room, pend-fields, pend-kmcid, pend-request, open-room, open-fields, open-kmcid, load-room, load-fields, load-card, load-place, show-room, show-place, show-fits, enumerate-room, enumerate-count, query-room, query-place, query-fits, query-count)
 
--- the fields of a request, from its payload p
-pub its-fields : (q p : List ℕ) → p ≡ payloadOf q → (c : Command) → areFieldsOf c (fieldsIn q) ≡ true → areFieldsOf c (valuesOf p) ≡ true
-its-fields q p e c h = rw e h
+-- the row at a place, whatever stands beyond the places
+module _ {a b : List ℕ} {n : ℕ} (d : Decision) (t : Tables) (x : Supplement) (q : List ℕ) (k : ℕ) where
+  pub show-written : d ≡ Show k → length (t .registers) ≡ 32 → k < 32 → (y : RegisterRow) → Wrote a 0 (responseBytes (headerOf q) accepted (string (storedIn (getD (t .registers) k y)) ∷ [])) b n → Wrote a 0 (responseFor d t x q) b n
+  show-written p z h y w = rw (p, getD-any (t .registers) k freeRegister y (omega arith)) w
 
--- under the header h of the request q
-module _ (q h : List ℕ) (e : h ≡ headerOf q) where
-  five : 10 ≤ length q → length h ≡ 5
-  five l = ap length e ∙ header-five q l
-
-  pub head-long : 10 ≤ length q → 3 ≤ length h
-  head-long l = omega (arith, five l)
-
-  pub plain-fits : (m : ℕ) → 10 ≤ length q → 1024 ≤ m → length h + 2 + 5 ≤ m
-  plain-fits m l r = omega (arith, five l)
-
-  pub card-fits : (m n : ℕ) (row : List ℕ) → 10 ≤ length q → 1024 ≤ m → length row ≡ 256 → length h + 2 + 12 + length (take n row) + 2 + 5 ≤ m
-  card-fits m n row l r z = omega (arith, five l, take-le n row)
-
-  pub plainly-written : {a b : List ℕ} {n : ℕ} (vs : List Value) → Wrote a 0 (responseBytes h accepted vs) b n → Wrote a 0 (responseBytes (headerOf q) accepted vs) b n
-  plainly-written vs w = rw (← e) w
-
-  -- the KMCID v in the payload p
-  module _ (p : List ℕ) (i : p ≡ payloadOf q) (v : List ℕ) (j : v ≡ kmcidOf (valuesOf p)) where
-    its-kmcid : v ≡ kmcidOf (fieldsIn q)
-    its-kmcid = j ∙ ap (λ s. kmcidOf (valuesOf s)) i
-
-    module _ (m : ℕ) (l : 10 ≤ length q) (r : 1024 ≤ m) (k : length (kmcidOf (fieldsIn q)) ≤ 40) where
-      pub kmcid-fits : length h + 2 + length v + 7 ≤ m
-      kmcid-fits = omega (arith, five l, ap length its-kmcid)
-
-      pub request-fits : (n : ℕ) (row : List ℕ) → length row ≡ 700 → length h + 2 + length v + length (take n row) + 9 ≤ m
-      request-fits n row z = omega (arith, five l, ap length its-kmcid, take-le n row)
-
-    pub open-written : {a b : List ℕ} {n : ℕ} → Wrote a 0 (responseBytes h accepted (string v ∷ [])) b n → Wrote a 0 (responseBytes (headerOf q) accepted (string (kmcidOf (fieldsIn q)) ∷ [])) b n
-    open-written w = rw (← e, ← its-kmcid) w
-
-    pub pending-written : {a b : List ℕ} {n : ℕ} (r : List ℕ) → Wrote a 0 (responseBytes h accepted (string v ∷ string r ∷ [])) b n
-        → Wrote a 0 (responseBytes (headerOf q) accepted (string (kmcidOf (fieldsIn q)) ∷ string r ∷ [])) b n
-    pending-written r w = rw (← e, ← its-kmcid) w
-
-  -- the card in the first n bytes of a row
-  module _ (x : Supplement) (p : List ℕ) (i : p ≡ payloadOf q) (row : List ℕ) (n : ℕ) (j : row ≡ inRow (cardOf x (valuesOf p))) (k : n ≡ length (cardOf x (valuesOf p))) where
-    its-card : take n row ≡ cardOf x (fieldsIn q)
-    unfolding inRow
-    its-card = rw (← i, j) (take-at (cardOf x (valuesOf p)) _ n (sym k))
-
-    pub load-written : {a b : List ℕ} {z : ℕ} (g : ℕ) → Wrote a 0 (responseBytes h accepted (number g ∷ string (take n row) ∷ [])) b z
-        → Wrote a 0 (responseBytes (headerOf q) accepted (number g ∷ string (cardOf x (fieldsIn q)) ∷ [])) b z
-    load-written g w = rw (← e, ← its-card) w
-
--- loaded_card requires, and its card lies in the row
-module _ (x : Supplement) (q p : List ℕ) (i : p ≡ payloadOf q) (h : length (cardOf x (fieldsIn q)) ≤ 256) where
-  pub card-room : length (cardOf x (valuesOf p)) ≤ 256
-  card-room = rw i h
-
-  pub card-within : (n : ℕ) → n ≡ length (cardOf x (valuesOf p)) → n ≤ 256
-  card-within n o = rw o card-room
+  pub query-written : d ≡ Query k → length (t .slots) ≡ 8 → k < 8 → (y : SlotRow) → Wrote a 0 (responseBytes (headerOf q) accepted (queryFields (getD (t .slots) k y) (registerRows t))) b n → Wrote a 0 (responseFor d t x q) b n
+  query-written p z h y w = rw (p, getD-any (t .slots) k freeSlot y (omega arith)) w

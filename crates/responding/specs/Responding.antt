@@ -3,23 +3,29 @@ use Prim.Native.Nat.{ℕ, _+_, _≤_, _<_}
 use mathlib.Core.Path.{_≡_}
 use mathlib.Core.Bool.{true}
 use mathlib.Core.List.{List, [], _∷_}
-use lib.ListN.{length}
-use Rattle.fields.specs.Values.{Value, number, string}
+use lib.ListN.{length, getD}
+use Rattle.fields.specs.Values.{number, string}
 use Rattle.frames.specs.Frames.{headerOf}
 use Rattle.responses.specs.Responses.{responseBytes}
 use Rattle.commands.specs.declared.Command.the-variants.{KL, KF}
 use Rattle.rows.specs.Supplements.{loadRequest}
+use Rattle.rows.specs.Slots.{freeSlot}
+use Rattle.rows.specs.Registers.{freeRegister}
+use Rattle.rows.specs.Places.{slotRows, registerRows}
+use Rattle.rows.specs.Reports.{storedIn, slotNames, nameFields, queryFields}
 use Rattle.rows.specs.declared.Supplement.{Supplement}
+use Rattle.rows.specs.declared.Tables.{Tables}
 use Rattle.rows.specs.declared.SlotState.the-variants.{Free, Pending, Loading, Idle}
 use Rattle.engine.specs.Refusals.{refusal}
 use Rattle.engine.specs.Requests.{fieldsIn, areFieldsOf}
 use Rattle.engine.specs.Answers.{accepted, refusalBytes}
 use Rattle.request_parts.specs.Parts.{kmcidOf, cardOf}
 use Rattle.engine.specs.declared.Decision.{Decision}
-use Rattle.engine.specs.declared.Decision.the-variants.{Refuse, Reset, Pend, Open, Load, Finish, Delete, Clear}
+use Rattle.engine.specs.declared.Decision.the-variants.{Refuse, Reset, Pend, Open, Load, Finish, Delete, Clear, Show, Enumerate, Query}
 use Rattle.engine.specs.declared.Outcome.{Outcome}
 use Rattle.engine.specs.declared.Outcome.the-variants.{Accepted, Done, Refused}
 use Rattle.refusals.specs.Tellings.{CanTell}
+use Rattle.session_replies.specs.Room.{HasRoom}
 
 abbrev pub outcomeFor : Decision → Outcome
 outcomeFor (Refuse r) = Refused r
@@ -30,29 +36,34 @@ outcomeFor (Load k) = Accepted Loading
 outcomeFor (Finish k) = Accepted Idle
 outcomeFor (Delete k) = Accepted Free
 outcomeFor (Clear k) = Done
+outcomeFor (Show k) = Done
+outcomeFor Enumerate = Done
+outcomeFor (Query k) = Done
 
--- the response to the request q
-abbrev pub responseFor : Decision → Supplement → List ℕ → List ℕ
-responseFor (Refuse r) x q = refusalBytes q (refusal r .header) (refusal r)
-responseFor Reset x q = responseBytes (headerOf q) accepted []
-responseFor (Pend k) x q = responseBytes (headerOf q) accepted (string (kmcidOf (fieldsIn q)) ∷ string (loadRequest x) ∷ [])
-responseFor (Open k) x q = responseBytes (headerOf q) accepted (string (kmcidOf (fieldsIn q)) ∷ [])
-responseFor (Load k) x q = responseBytes (headerOf q) accepted (number (k + 1) ∷ string (cardOf x (fieldsIn q)) ∷ [])
-responseFor (Finish k) x q = responseBytes (headerOf q) accepted []
-responseFor (Delete k) x q = responseBytes (headerOf q) accepted []
-responseFor (Clear k) x q = responseBytes (headerOf q) accepted []
-
--- a request of n bytes, and room for every response
-abbrev pub HasRoom : ℕ → ℕ → Type 0
-HasRoom n room = (10 ≤ n) × (1024 ≤ room)
+-- the response to the request q, over the tables t; SM?GL lists the slots row by row
+abbrev pub responseFor : Decision → Tables → Supplement → List ℕ → List ℕ
+responseFor (Refuse r) t x q = refusalBytes q (refusal r .header) (refusal r)
+responseFor Reset t x q = responseBytes (headerOf q) accepted []
+responseFor (Pend k) t x q = responseBytes (headerOf q) accepted (string (kmcidOf (fieldsIn q)) ∷ string (loadRequest x) ∷ [])
+responseFor (Open k) t x q = responseBytes (headerOf q) accepted (string (kmcidOf (fieldsIn q)) ∷ [])
+responseFor (Load k) t x q = responseBytes (headerOf q) accepted (number (k + 1) ∷ string (cardOf x (fieldsIn q)) ∷ [])
+responseFor (Finish k) t x q = responseBytes (headerOf q) accepted []
+responseFor (Delete k) t x q = responseBytes (headerOf q) accepted []
+responseFor (Clear k) t x q = responseBytes (headerOf q) accepted []
+responseFor (Show k) t x q = responseBytes (headerOf q) accepted (string (storedIn (getD (t .registers) k freeRegister)) ∷ [])
+responseFor Enumerate t x q = responseBytes (headerOf q) accepted (nameFields (slotNames (slotRows t)))
+responseFor (Query k) t x q = responseBytes (headerOf q) accepted (queryFields (getD (t .slots) k freeSlot) (registerRows t))
 
 -- what makes the response fit; it is known of each decision
-abbrev pub CanRespond : Decision → Supplement → List ℕ → ℕ → Type 0
-CanRespond (Refuse r) x q room = CanTell (refusal r .header) (length q) room
-CanRespond Reset x q room = HasRoom (length q) room
-CanRespond (Pend k) x q room = HasRoom (length q) room × ((areFieldsOf KF (fieldsIn q) ≡ true) × ((length (kmcidOf (fieldsIn q)) ≤ 40) × (x .«request_length» ≤ 700)))
-CanRespond (Open k) x q room = HasRoom (length q) room × ((areFieldsOf KF (fieldsIn q) ≡ true) × (length (kmcidOf (fieldsIn q)) ≤ 40))
-CanRespond (Load k) x q room = HasRoom (length q) room × ((areFieldsOf KL (fieldsIn q) ≡ true) × ((length (cardOf x (fieldsIn q)) ≤ 256) × (k < 32)))
-CanRespond (Finish k) x q room = HasRoom (length q) room
-CanRespond (Delete k) x q room = HasRoom (length q) room
-CanRespond (Clear k) x q room = HasRoom (length q) room
+abbrev pub CanRespond : Decision → Tables → Supplement → List ℕ → ℕ → Type 0
+CanRespond (Refuse r) t x q room = CanTell (refusal r .header) (length q) room
+CanRespond Reset t x q room = HasRoom (length q) room
+CanRespond (Pend k) t x q room = HasRoom (length q) room × ((areFieldsOf KF (fieldsIn q) ≡ true) × ((length (kmcidOf (fieldsIn q)) ≤ 40) × (x .«request_length» ≤ 700)))
+CanRespond (Open k) t x q room = HasRoom (length q) room × ((areFieldsOf KF (fieldsIn q) ≡ true) × (length (kmcidOf (fieldsIn q)) ≤ 40))
+CanRespond (Load k) t x q room = HasRoom (length q) room × ((areFieldsOf KL (fieldsIn q) ≡ true) × ((length (cardOf x (fieldsIn q)) ≤ 256) × (k < 32)))
+CanRespond (Finish k) t x q room = HasRoom (length q) room
+CanRespond (Delete k) t x q room = HasRoom (length q) room
+CanRespond (Clear k) t x q room = HasRoom (length q) room
+CanRespond (Show k) t x q room = HasRoom (length q) room × (k < 32)
+CanRespond Enumerate t x q room = HasRoom (length q) room × (t .«slot_count» ≤ 8)
+CanRespond (Query k) t x q room = HasRoom (length q) room × ((k < 8) × (t .«register_count» ≤ 32))

@@ -3,21 +3,12 @@ use engine::Decision;
 use engine::Outcome;
 use rows::SlotState;
 use rows::Supplement;
+use rows::Tables;
 ghost use mathlib.Core.Path.{_≡_};
-ghost use mathlib.Core.Bool.{true};
-ghost use mathlib.Core.List.{[], _∷_};
-ghost use Prim.Native.Nat.{_+_, _≤_, _<_};
+ghost use Prim.Native.Nat.{_≤_};
 ghost use lib.ListN.{length};
 ghost use Rattle.octets.specs.Wrote.{Wrote};
-ghost use Rattle.fields.specs.Values.{number, string};
-ghost use Rattle.frames.specs.Frames.{headerOf};
-ghost use Rattle.responses.specs.Responses.{responseBytes};
-ghost use Rattle.commands.specs.declared.Command.the-variants.{KF, KL};
-ghost use Rattle.rows.specs.Supplements.{loadRequest};
-ghost use Rattle.engine.specs.Requests.{fieldsIn, areFieldsOf};
-ghost use Rattle.engine.specs.Answers.{accepted};
-ghost use Rattle.request_parts.specs.Parts.{kmcidOf, cardOf};
-ghost use Rattle.responding.specs.Responding.{outcomeFor, responseFor, HasRoom, CanRespond};
+ghost use Rattle.responding.specs.Responding.{outcomeFor, responseFor, CanRespond};
 
 // The outcome of a decision.
 pub fn outcome(d: Decision) -> Outcome
@@ -25,79 +16,44 @@ pub fn outcome(d: Decision) -> Outcome
 {
     match d {
         Decision::Refuse(r) => Outcome::Refused(r),
-        Decision::Reset => Outcome::Done,
         Decision::Pend(_) => Outcome::Accepted(SlotState::Pending),
         Decision::Open(_) => Outcome::Accepted(SlotState::Loading),
         Decision::Load(_) => Outcome::Accepted(SlotState::Loading),
         Decision::Finish(_) => Outcome::Accepted(SlotState::Idle),
         Decision::Delete(_) => Outcome::Accepted(SlotState::Free),
-        Decision::Clear(_) => Outcome::Done,
+        Decision::Reset
+        | Decision::Clear(_)
+        | Decision::Show(_)
+        | Decision::Enumerate
+        | Decision::Query(_) => Outcome::Done,
     }
 }
 
-// Accepts a request whose response has no fields, and answers its length.
-fn respond_plainly(request: &[u8], response: &mut [u8]) -> usize
-    requires { ⌜ HasRoom (length (now request)) (length (now response)) ⌝ }
-    ensures { λ n. ⌜ Wrote (now (response .entry)) 0 (responseBytes (headerOf (now (request .entry))) accepted []) (now (response .exit)) n ⌝ }
-    ensures fits { λ n. ⌜ n ≤ length (now (response .entry)) ⌝ }
-{
-    replies::reply(response, frames::header(request), b"00")
-}
-
-// The response to SM?KC, and its length: the KMCID and the load request.
-fn respond_pending(x: Supplement, request: &[u8], response: &mut [u8]) -> usize
-    requires { ⌜ HasRoom (length (now request)) (length (now response)) × ((areFieldsOf KF (fieldsIn (now request)) ≡ true) × ((length (kmcidOf (fieldsIn (now request))) ≤ 40) × (x .«request_length» ≤ 700))) ⌝ }
-    ensures { λ n. ⌜ Wrote (now (response .entry)) 0 (responseBytes (headerOf (now (request .entry))) accepted (string (kmcidOf (fieldsIn (now (request .entry)))) ∷ string (loadRequest x) ∷ [])) (now (response .exit)) n ⌝ }
-    ensures fits { λ n. ⌜ n ≤ length (now (response .entry)) ⌝ }
-{
-    let kmcid = request_parts::kmcid_text(frames::payload(request));
-    let n = x.request_length;
-    let load = x.request;
-    replies::reply_texts(response, frames::header(request), b"00", kmcid, &load[..n])
-}
-
-// The response to SM?KR, and its length: the KMCID.
-fn respond_open(request: &[u8], response: &mut [u8]) -> usize
-    requires { ⌜ HasRoom (length (now request)) (length (now response)) × ((areFieldsOf KF (fieldsIn (now request)) ≡ true) × (length (kmcidOf (fieldsIn (now request))) ≤ 40)) ⌝ }
-    ensures { λ n. ⌜ Wrote (now (response .entry)) 0 (responseBytes (headerOf (now (request .entry))) accepted (string (kmcidOf (fieldsIn (now (request .entry)))) ∷ [])) (now (response .exit)) n ⌝ }
-    ensures fits { λ n. ⌜ n ≤ length (now (response .entry)) ⌝ }
-{
-    let name = request_parts::kmcid_text(frames::payload(request));
-    replies::reply_text(response, frames::header(request), b"00", name)
-}
-
-// The response to SM?KL, and its length: the number of the register, counted from 1, and the stored card.
-fn respond_load(k: usize, x: Supplement, request: &[u8], response: &mut [u8]) -> usize
-    requires { ⌜ HasRoom (length (now request)) (length (now response)) × ((areFieldsOf KL (fieldsIn (now request)) ≡ true) × ((length (cardOf x (fieldsIn (now request))) ≤ 256) × (k < 32))) ⌝ }
-    ensures { λ n. ⌜ Wrote (now (response .entry)) 0 (responseBytes (headerOf (now (request .entry))) accepted (number (k + 1) ∷ string (cardOf x (fieldsIn (now (request .entry)))) ∷ [])) (now (response .exit)) n ⌝ }
-    ensures fits { λ n. ⌜ n ≤ length (now (response .entry)) ⌝ }
-{
-    let s = request_parts::loaded_card(frames::payload(request), x);
-    let n = s.length;
-    let card = s.card;
-    replies::reply_number_text(
-        response,
-        frames::header(request),
-        b"00",
-        k as u32 + 1,
-        &card[..n],
-    )
-}
-
 // The response of a decision, and its length.
-pub fn respond(d: Decision, x: Supplement, request: &[u8], response: &mut [u8]) -> usize
-    requires { ⌜ CanRespond d x (now request) (length (now response)) ⌝ }
-    ensures { λ n. ⌜ Wrote (now (response .entry)) 0 (responseFor d x (now (request .entry))) (now (response .exit)) n ⌝ }
+pub fn respond(d: Decision, t: Tables, x: Supplement, request: &[u8], response: &mut [u8]) -> usize
+    requires { ⌜ CanRespond d t x (now request) (length (now response)) ⌝ }
+    ensures { λ n. ⌜ Wrote (now (response .entry)) 0 (responseFor d t x (now (request .entry))) (now (response .exit)) n ⌝ }
     ensures fits { λ n. ⌜ n ≤ length (now (response .entry)) ⌝ }
 {
+    let slots = t.slots;
+    let registers = t.registers;
     match d {
         Decision::Refuse(r) => refusals::refuse(response, request, r),
-        Decision::Reset => respond_plainly(request, response),
-        Decision::Pend(_) => respond_pending(x, request, response),
-        Decision::Open(_) => respond_open(request, response),
-        Decision::Load(k) => respond_load(k, x, request, response),
-        Decision::Finish(_) => respond_plainly(request, response),
-        Decision::Delete(_) => respond_plainly(request, response),
-        Decision::Clear(_) => respond_plainly(request, response),
+        Decision::Pend(_) => session_replies::respond_pending(x, request, response),
+        Decision::Open(_) => session_replies::respond_open(request, response),
+        Decision::Load(k) => session_replies::respond_load(k, x, request, response),
+        Decision::Reset | Decision::Finish(_) | Decision::Delete(_) | Decision::Clear(_) => {
+            session_replies::respond_plainly(request, response)
+        }
+        Decision::Show(k) => report_replies::respond_card(registers[k], request, response),
+        Decision::Enumerate => report_replies::respond_names(
+            slots,
+            t.slot_count,
+            request,
+            response,
+        ),
+        Decision::Query(k) => {
+            report_replies::respond_query(slots[k], registers, t.register_count, request, response)
+        }
     }
 }

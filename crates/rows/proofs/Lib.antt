@@ -1,3 +1,5 @@
 pub mod ListLaws
 pub mod LoopLaws
 pub mod PlaceCounts
+pub mod ReportLaws
+pub mod FieldLoops

@@ -1,14 +1,15 @@
 -- Searches, tests and sweeps over rows, and bytes in a space with zeros after them.
-use mathlib.Core.Path.{_≡_, refl, sym, ap, _∙_}
-use mathlib.Core.Bool.{Bool, true, false, cond, not, _&&_}
+use mathlib.Core.Path.{_≡_, refl, ap}
+use mathlib.Core.Bool.{Bool, true, false, cond}
 use mathlib.Core.List.{List, [], _∷_, _++_, map}
-use mathlib.Core.Option.{Option, none, some}
+use mathlib.Core.Option.{none, some}
 use Prim.Native.Nat.{ℕ, zero, suc, _+_, _≤_, _<_}
 use native.Mathlib.Omega.{arith}
 use lib.ListN.{length, getD, set, take, replicate}
+use lib.Seq.{length-take-le}
 use Rattle.octets.specs.Strings.{isNot, run, allOf}
 use Rattle.octets.proofs.Flags.{nope, and-first, and-second}
-use Rattle.octets.proofs.StringLaws.{all-run}
+use Rattle.octets.proofs.StringLaws.{run-le}
 use Rattle.rows.specs.Lists.{everyRow, firstFrom, padded, trimmed}
 
 -- a place that a search counted from i found
@@ -102,6 +103,11 @@ trim-take (suc n) j (b ∷ bs) h = go (isNot 0 b) refl h (trim-take n j bs)
 pub trimmed-padded : (n : ℕ) (k : List ℕ) → length (trimmed k) ≤ n → trimmed (padded n k) ≡ trimmed k
 unfolding padded
 trimmed-padded n k h = trim-take n n k h
+
+-- and is no longer than its space
+pub trimmed-short : (n : ℕ) (k : List ℕ) → length k ≡ n → length (trimmed k) ≤ n
+unfolding trimmed
+trimmed-short n k e = omega (arith, run-le (isNot 0) k, length-take-le (run (isNot 0) k) k (run-le (isNot 0) k))
 
 -- a name without a zero is what stands before the first
 pub trimmed-all : (k : List ℕ) → allOf (isNot 0) k ≡ true → trimmed k ≡ k

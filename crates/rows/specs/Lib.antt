@@ -5,3 +5,4 @@ pub mod Sound
 pub mod Supplements
 pub mod Places
 pub mod Index
+pub mod Reports

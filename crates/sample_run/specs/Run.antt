@@ -32,7 +32,7 @@ supplement =
 
 -- a request with that supplement; its buffer is full of the character 0, so that what lies beyond an answer says 00
 abbrev pub hand : List ℕ → Handed
-hand request = record { request = request; supplement = supplement; buffer = replicate 1024 48 }
+hand request = record { request = request; supplement = supplement; buffer = replicate 1024 48; sequence = [] }
 
 -- SM?KCPPK.ECDH.1|KMCID.1:SW1:A:20200101T000000Z:AAAAAAAAAAAAAAAA:9BE0|04|20300101T000000Z|||BE23~9E67
 abbrev pub startA : Handed

@@ -10,7 +10,6 @@ use borrow.Author.Tests.{leb-true, eqb-true, ne-eqb}
 use Rattle.octets.specs.Strings.{sameBytes}
 use Rattle.octets.proofs.Flags.{and-first, and-second}
 use Rattle.text.specs.Classes.{areAll}
-use Rattle.text.specs.Identifiers.{isIdentifier}
 use Rattle.text.specs.declared.Class.the-variants.{Zero}
 use Rattle.text.proofs.Identify.{name-some}
 use Rattle.attributes.specs.Table.{KSL}
@@ -22,6 +21,7 @@ use Rattle.rows.specs.Index.{keptName, isCalled, isSameName, isOwnedBy}
 use Rattle.rows.specs.declared.SlotRow.{SlotRow}
 use Rattle.rows.specs.declared.RegisterRow.{RegisterRow}
 use Rattle.rows.specs.declared.SlotState.the-variants.{Free}
+use Rattle.rows.proofs.ReportLaws.{sound-kmcid}
 use Rattle.soundness.proofs.Readings.{some-read, distinct-read, every-alike}
 
 zeros-trimmed : (k : List ℕ) → areAll Zero k ≡ true → trimmed k ≡ []
@@ -43,10 +43,7 @@ module _ (r : SlotRow) (h : isSlotSound r ≡ true) where
           absurd (omega arith)
 
   used-name : hasState Free r ≡ false → 1 ≤ length (kmcidOf r)
-  unfolding isSlotSound isZeroSlot isFilledSlot
-  used-name o =
-      let w = rw o at h in
-      name-some (kmcidOf r) (and-first (isIdentifier (kmcidOf r)) _ (and-second (leb (r .state) 3) _ (and-second (leb 1 (r .state)) _ w)))
+  used-name o = name-some (kmcidOf r) (sound-kmcid r h o)
 
 -- no name is called by no byte
 called-none : (name : List ℕ) → trimmed name ≡ [] → (s : List ℕ) → isCalled s name ≡ false

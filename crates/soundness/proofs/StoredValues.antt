@@ -1,48 +1,27 @@
 -- A card as stored has each attribute, its value in form.
 use mathlib.Core.Path.{_≡_, refl}
-use mathlib.Core.Bool.{true, false, _&&_}
+use mathlib.Core.Bool.{true, false}
 use mathlib.Core.List.{List, [], _∷_}
 use Prim.Native.Nat.{ℕ, zero, suc, _+_}
 use native.Mathlib.Omega.{arith}
-use lib.Dec.{T, eqb, ltb}
+use lib.Dec.{T, eqb}
 use lib.ListN.{length, take, drop}
-use borrow.Author.Tests.{ltb-true, eqb-true, eq-eqb}
-use Rattle.octets.proofs.Flags.{and-first, and-second, and-left, and-right, no}
+use borrow.Author.Tests.{eq-eqb}
+use Rattle.octets.proofs.Flags.{and-second, and-left, and-right, no}
 use Rattle.pieces.specs.Pieces.{pieces}
 use Rattle.pieces.proofs.PieceLaws.{pieces-first}
 use Rattle.forms.specs.Forms.{inForm}
-use Rattle.cards.specs.Entries.{nameOf, valueIn, valueOf, orElse}
+use Rattle.cards.specs.Entries.{valueIn, valueOf, orElse}
 use Rattle.cards.proofs.EntryLaws.{a-name}
 use Rattle.attributes.specs.Table.{table, name, form}
 use Rattle.attributes.specs.declared.Attribute.{Attribute}
 use Rattle.attributes.proofs.TableLaws.{allRows, at-row, name-some}
-use Rattle.stored_cards.specs.Stored.{entryLength, isEntryOf, isStoredFrom, isStored}
+use Rattle.stored_cards.specs.Stored.{entryLength, isStoredFrom, isStored}
 use Rattle.card_laws.proofs.RoundTrip.{isOther, isDistinct, all-distinct}
+use Rattle.card_laws.proofs.StoredText.{entry-ends, entry-name, entry-form, stored-behind}
 
--- the first entry, and what follows it
-module _ (x : Attribute) (rs : List Attribute) (s : List ℕ) (e : isStoredFrom (x ∷ rs) s ≡ true) where
-  abbrev entry : List ℕ
-  entry = take (entryLength s) s
-
-  abbrev behind : List ℕ
-  behind = drop (entryLength s + 1) s
-
-  first-piece : pieces 59 s ≡ entry ∷ pieces 59 behind
-  first-piece = pieces-first 59 s (ltb-true (entryLength s) (length s) (and-first (ltb (entryLength s) (length s)) (isEntryOf x entry && isStoredFrom rs behind) e))
-
-  both : (isEntryOf x entry && isStoredFrom rs behind) ≡ true
-  both = and-second (ltb (entryLength s) (length s)) (isEntryOf x entry && isStoredFrom rs behind) e
-
-  entry-name : nameOf entry ≡ name x
-  unfolding isEntryOf
-  entry-name = eqb-true (nameOf entry) (name x) (and-first (eqb (nameOf entry) (name x)) (inForm (form x) (drop 3 entry)) (and-first (isEntryOf x entry) (isStoredFrom rs behind) both))
-
-  entry-form : inForm (form x) (drop 3 entry) ≡ true
-  unfolding isEntryOf
-  entry-form = and-second (eqb (nameOf entry) (name x)) (inForm (form x) (drop 3 entry)) (and-first (isEntryOf x entry) (isStoredFrom rs behind) both)
-
-  stored-behind : isStoredFrom rs behind ≡ true
-  stored-behind = and-second (isEntryOf x entry) (isStoredFrom rs behind) both
+first-piece : (x : Attribute) (rs : List Attribute) (s : List ℕ) → isStoredFrom (x ∷ rs) s ≡ true → pieces 59 s ≡ take (entryLength s) s ∷ pieces 59 (drop (entryLength s + 1) s)
+first-piece x rs s e = pieces-first 59 s (entry-ends x rs s e)
 
 stored-from : (rs : List Attribute) → T (isDistinct rs) → (s : List ℕ) → isStoredFrom rs s ≡ true → (k : ℕ) (a : Attribute) (r : List Attribute) → drop k rs ≡ a ∷ r
     → inForm (form a) (orElse (valueIn (name a) (pieces 59 s)) []) ≡ true

@@ -21,8 +21,8 @@ pub fn are_rows_sound(slots: [SlotRow; 8], n: usize, registers: [RegisterRow; 32
     if !register_tables::are_registers_sound(registers, m) {
         return false;
     }
-    let keys = register_tables::keys_of(registers);
-    if !register_tables::are_keys_distinct(&keys[..m]) {
+    let keys = register_keys::keys_of(registers);
+    if !register_keys::are_keys_distinct(&keys[..m]) {
         return false;
     }
     register_tables::are_registers_owned(registers, m, &names[..n])

@@ -31,19 +31,19 @@ use Rattle.history.proofs.Sound.{sound-step, sound-empty}
 use Rattle.engine.specs.Refusals.{refusal}
 use Rattle.engine.specs.Requests.{commandIn, fieldsIn, recordIn, kmcIdentityIn, slotIn, cardIn, firstText}
 use Rattle.engine.specs.Questions.{Call, slotNamed, questions, firstNo}
-use Rattle.engine.specs.Answers.{Answer, slotsMoved, slotsOpened, slotsWithout, answered, effect, refused, answerTo, answerOf}
+use Rattle.engine.specs.Answers.{Answer, slotsMoved, slotsOpened, slotsWithout, answered, listed, effect, refused, answerTo, answerOf}
 use Rattle.engine.specs.Words.{tablesOf, Handed, Lent, callOf, rowsAfter, itemAt, emptyRows}
 use Rattle.engine.specs.declared.Refusal.{Refusal}
 use Rattle.engine.specs.declared.Refusal.the-variants.{UnsoundRows}
 use Rattle.engine.specs.declared.Outcome.the-variants.{Refused}
-use Rattle.engine.proofs.RowWords.{named-state}
+use Rattle.engine.proofs.RowWords.{named-state, free-register-sound}
 use Rattle.engine.proofs.Places.{KnownAt, known-at, free-sound, sound-at}
 use Rattle.engine.proofs.AnswerLaws.{refused-by, held-not}
 use Rattle.engine.proofs.Steps.{Yes, yes-of, row-is, identity-name, key-identity, is-name, is-card, is-check, moves}
 use Rattle.engine.proofs.Demand3.{starts-empty}
 use Rattle.stays_sound.proofs.RowTests.{every-set, every-map, every-replicate}
 use Rattle.stays_sound.proofs.SoundWords.{SoundTables, sound-from, sound-to}
-use Rattle.stays_sound.proofs.WrittenRows.{opened-sound, moved-sound, reset-sound, free-register-sound, without-sound, loaded-sound}
+use Rattle.stays_sound.proofs.WrittenRows.{opened-sound, moved-sound, reset-sound, without-sound, loaded-sound}
 
 -- every row of an answer is sound by itself
 pub record EachSound (a : Answer) : Type 0 where
@@ -105,6 +105,7 @@ module _ (x : Call) (vs : List Value) (s : SoundTables (x .slots) (x .registers)
   each-kd y = record { slots = s .each-slot; registers = every-set isRegisterSound (x .registers) _ freeRegister free-register-sound (s .each-register) }
 
 each-effect : (x : Call) (c : Command) (vs : List Value) → SoundTables (x .slots) (x .registers) → Yes x c vs → EachSound (effect x c vs (recordIn c vs) (slotIn c vs))
+unfolding answered listed
 each-effect x RS vs s y = each-rs x vs s y
 each-effect x KC vs s y = each-kc x vs s y
 each-effect x KR vs s y = each-kr x vs s y
@@ -112,10 +113,10 @@ each-effect x KL vs s y = each-kl x vs s y
 each-effect x KF vs s y = each-kf x vs s y
 each-effect x KX vs s y = each-kx x vs s y
 each-effect x KD vs s y = each-kd x vs s y
-each-effect x GA vs s y = let z = y .built in nope (cc)
-each-effect x GL vs s y = let z = y .built in nope (cc)
-each-effect x KQ vs s y = let z = y .built in nope (cc)
-each-effect x Unknown vs s y = let z = y .built in nope (cc)
+each-effect x GA vs s y = record { slots = s .each-slot; registers = s .each-register }
+each-effect x GL vs s y = record { slots = s .each-slot; registers = s .each-register }
+each-effect x KQ vs s y = record { slots = s .each-slot; registers = s .each-register }
+each-effect x Unknown vs s y = let z = y .header in nope (cc)
 
 each-answer : (x : Call) → SoundTables (x .slots) (x .registers) → EachSound (answerOf x)
 unfolding answerOf refused

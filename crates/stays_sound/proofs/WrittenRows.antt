@@ -30,7 +30,7 @@ use Rattle.rows.specs.declared.SlotState.{SlotState}
 use Rattle.rows.specs.declared.SlotState.the-variants.{Free, Pending, Loading, Idle}
 use Rattle.rows.proofs.ListLaws.{trimmed-padded, trimmed-all}
 use Rattle.engine.specs.Answers.{loadedCard}
-use Rattle.engine.proofs.RowWords.{free-vacant}
+use Rattle.engine.proofs.RowWords.{free-register-sound}
 use Rattle.stays_sound.proofs.RowTests.{or-second}
 
 -- BYTES IN A SPACE. What fills it is as it was
@@ -119,10 +119,6 @@ reset-sound v h = go (hasState Pending v) (hasState Loading v) refl refl
     go false false e f = h
 
 -- REGISTERS
-pub free-register-sound : isRegisterSound freeRegister ≡ true
-unfolding isRegisterSound
-free-register-sound = rw free-vacant refl
-
 -- SM?KX
 pub without-sound : (s : List ℕ) (r : RegisterRow) → isRegisterSound r ≡ true → isRegisterSound (withoutSlot s r) ≡ true
 unfolding withoutSlot

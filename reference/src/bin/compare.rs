@@ -1,4 +1,5 @@
-//! Compares the engine, linked as the static library of the crate `port`, with `handle`: `compare [calls [seed]]`.
+//! Compares the engine, linked as the static library of the crate `port`, with `handle` and `usable`:
+//! `compare [calls [seed]]`.
 
 use reference::harness::{self, Engine};
 use reference::{RegisterRow, SlotRow, Supplement};
@@ -29,6 +30,16 @@ extern "C" {
         response: *mut u8,
         response_length: usize,
     ) -> Reply;
+    fn diminurel_usable(tables: Tables, register: usize) -> u8;
+}
+
+fn tables(slots: &[SlotRow], registers: &[RegisterRow], slot_count: usize, register_count: usize) -> Tables {
+    Tables {
+        slots: slots.try_into().expect("places for 8 slot rows"),
+        registers: registers.try_into().expect("places for 32 register rows"),
+        slot_count,
+        register_count,
+    }
 }
 
 struct Linked;
@@ -44,12 +55,7 @@ impl Engine for Linked {
         request: &[u8],
         response: &mut [u8],
     ) -> (u8, u8, usize) {
-        let tables = Tables {
-            slots: slots[..].try_into().expect("places for 8 slot rows"),
-            registers: registers[..].try_into().expect("places for 32 register rows"),
-            slot_count,
-            register_count,
-        };
+        let tables = tables(slots, registers, slot_count, register_count);
         // The engine has no precondition; both slices are valid for their lengths.
         let reply = unsafe {
             diminurel_handle(
@@ -65,6 +71,22 @@ impl Engine for Linked {
         registers.copy_from_slice(&reply.tables.registers);
         assert_eq!((reply.tables.slot_count, reply.tables.register_count), (slot_count, register_count));
         (reply.outcome, reply.state, reply.length)
+    }
+
+    fn usable(
+        &mut self,
+        slots: &[SlotRow],
+        registers: &[RegisterRow],
+        slot_count: usize,
+        register_count: usize,
+        register: usize,
+    ) -> bool {
+        // The engine has no precondition here either.
+        match unsafe { diminurel_usable(tables(slots, registers, slot_count, register_count), register) } {
+            0 => false,
+            1 => true,
+            other => panic!("usable {register} is {other}, neither yes nor no"),
+        }
     }
 }
 

@@ -1,5 +1,5 @@
-//! Compares an engine under test with `handle`, call by call: outcome, state,
-//! length, every row and every byte of the response buffer.
+//! Compares an engine under test with `handle` and `usable`, call by call: outcome,
+//! state, length, every row and every byte of the response buffer.
 
 pub mod edits;
 pub mod generator;
@@ -10,7 +10,8 @@ pub mod scenes;
 pub mod tables;
 pub mod world;
 
-use crate::{handle, Command, RegisterRow, SlotRow, Supplement};
+use crate::demand3::{self, Word};
+use crate::{handle, rows, usable, Command, RegisterRow, SlotRow, Supplement};
 use generator::Generator;
 use std::fmt;
 use tables::Tables;
@@ -34,16 +35,19 @@ pub trait Engine {
         response: &mut [u8],
     ) -> (u8, u8, usize);
 
-    /// The commands that the engine answers; the other headers are refused with 7.
-    fn built(&self) -> Vec<Command> {
-        Command::SEVEN.to_vec()
-    }
+    /// May the key of a register, counted from 1, vend?
+    fn usable(
+        &mut self,
+        slots: &[SlotRow],
+        registers: &[RegisterRow],
+        slot_count: usize,
+        register_count: usize,
+        register: usize,
+    ) -> bool;
 }
 
-/// `handle` as an engine under test.
-pub struct Reference {
-    pub built: Vec<Command>,
-}
+/// `handle` and `usable` as an engine under test.
+pub struct Reference;
 
 impl Engine for Reference {
     fn handle(
@@ -60,12 +64,22 @@ impl Engine for Reference {
         let (Some(slots), Some(registers)) = (slots.get_mut(..slot_count), registers.get_mut(..register_count)) else {
             return (1, NO_STATE, 0);
         };
-        let answer = handle(&self.built, slots, registers, supplement, request, response);
+        let answer = handle(slots, registers, supplement, request, response);
         (answer.outcome, answer.state.unwrap_or(NO_STATE), answer.length)
     }
 
-    fn built(&self) -> Vec<Command> {
-        self.built.clone()
+    fn usable(
+        &mut self,
+        slots: &[SlotRow],
+        registers: &[RegisterRow],
+        slot_count: usize,
+        register_count: usize,
+        register: usize,
+    ) -> bool {
+        match (slots.get(..slot_count), registers.get(..register_count)) {
+            (Some(slots), Some(registers)) => usable(slots, registers, register),
+            _ => false,
+        }
     }
 }
 
@@ -73,11 +87,12 @@ impl Engine for Reference {
 #[derive(Clone, Debug)]
 pub struct Counts {
     pub seed: u64,
-    pub built: Vec<Command>,
     /// By outcome: 0 accepted, 1 to 21 refused.
     pub outcomes: [u64; 22],
     /// Acceptances, in the sequence of `Command::ALL`.
     pub accepted: [u64; 10],
+    /// Answers of `usable`: no, yes.
+    pub usable: [u64; 2],
     /// Calls of each part of the run.
     pub parts: Vec<(&'static str, u64)>,
     /// Histories from empty tables on which demand 3 was checked after every call.
@@ -97,9 +112,10 @@ impl Counts {
         let commands = Command::ALL
             .iter()
             .enumerate()
-            .filter(|(place, command)| self.built.contains(command) && self.accepted[*place] == 0)
+            .filter(|(place, _)| self.accepted[*place] == 0)
             .map(|(_, command)| format!("acceptance of {}", String::from_utf8_lossy(command.header())));
-        refusals.chain(commands).collect()
+        let usable = (0..2).filter(|&yes| self.usable[yes] == 0).map(|yes| format!("usable {}", ["no", "yes"][yes]));
+        refusals.chain(commands).chain(usable).collect()
     }
 }
 
@@ -113,15 +129,13 @@ impl fmt::Display for Counts {
         writeln!(out, "  histories that demand 3 was checked on: {}", self.histories)?;
         writeln!(out, "accepted {}", self.outcomes[0])?;
         for (command, accepted) in Command::ALL.iter().zip(self.accepted) {
-            if self.built.contains(command) {
-                writeln!(out, "  {} {accepted:>9}", String::from_utf8_lossy(command.header()))?;
-            }
+            writeln!(out, "  {} {accepted:>9}", String::from_utf8_lossy(command.header()))?;
         }
         writeln!(out, "refused")?;
         for (number, refused) in self.outcomes.iter().enumerate().skip(1) {
             writeln!(out, "  {number:>5} {refused:>9}")?;
         }
-        Ok(())
+        writeln!(out, "usable\n    yes {:>9}\n     no {:>9}", self.usable[1], self.usable[0])
     }
 }
 
@@ -142,7 +156,6 @@ pub struct Bench<'a> {
 
 impl<'a> Bench<'a> {
     pub fn new(engine: &'a mut dyn Engine, seed: u64) -> Self {
-        let built = engine.built();
         Bench {
             engine,
             generator: Generator::new(seed),
@@ -151,18 +164,14 @@ impl<'a> Bench<'a> {
             length: 0,
             counts: Counts {
                 seed,
-                built,
                 outcomes: [0; 22],
                 accepted: [0; 10],
+                usable: [0; 2],
                 parts: Vec::new(),
                 histories: 0,
                 edits: (0, 0),
             },
         }
-    }
-
-    pub fn built(&self) -> Vec<Command> {
-        self.counts.built.clone()
     }
 
     /// The calls from here on are counted under this name.
@@ -197,7 +206,6 @@ impl<'a> Bench<'a> {
 
         let mut after = before.clone();
         let answer = handle(
-            &self.counts.built,
             &mut after.slots[..before.slot_count],
             &mut after.registers[..before.register_count],
             supplement,
@@ -206,10 +214,9 @@ impl<'a> Bench<'a> {
         );
         let expected = (answer.outcome, answer.state.unwrap_or(NO_STATE), answer.length);
 
-        let (slot_places, register_places) = (crate::rows::MOST_SLOTS, crate::rows::MOST_REGISTERS);
         let got = self.engine.handle(
-            &mut tables.slots[..slot_places],
-            &mut tables.registers[..register_places],
+            &mut tables.slots[..rows::MOST_SLOTS],
+            &mut tables.registers[..rows::MOST_REGISTERS],
             before.slot_count,
             before.register_count,
             supplement,
@@ -227,7 +234,11 @@ impl<'a> Bench<'a> {
         if after.registers != tables.registers {
             wrong.push("register rows".to_string());
         }
-        if self.expected != self.got {
+        let (expected, beyond) = self.expected.split_at(answer.length);
+        let (got, got_beyond) = self.got.split_at(answer.length);
+        let list = answer.outcome == 0 && request.starts_with(Command::GL.header());
+        let same = if list { sorted(expected) == sorted(got) } else { expected == got };
+        if !same || beyond != got_beyond {
             wrong.push("response buffer".to_string());
         }
         if !wrong.is_empty() {
@@ -244,6 +255,14 @@ impl<'a> Bench<'a> {
         }
 
         self.length = answer.length;
+        // No refusal changes a row, and SM?GA, SM?GL and SM?KQ only read them.
+        let keeps = answer.outcome > 0 || demand3::word(request, self.answer()) == Word::Read;
+        if keeps && *tables != before {
+            return Err(format!(
+                "both engines changed rows where none may change\n{}",
+                describe(&before, supplement, request, buffer, &filling)
+            ));
+        }
         self.counts.outcomes[usize::from(answer.outcome)] += 1;
         if let Some((_, calls)) = self.counts.parts.last_mut() {
             *calls += 1;
@@ -274,6 +293,67 @@ impl<'a> Bench<'a> {
         }
         Ok(())
     }
+
+    /// Asks whether a register is usable, and compares.
+    pub fn usable(&mut self, tables: &Tables, register: usize) -> Result<bool, String> {
+        let expected = usable(tables.slots(), tables.registers(), register);
+        let got = self.engine.usable(
+            &tables.slots[..rows::MOST_SLOTS],
+            &tables.registers[..rows::MOST_REGISTERS],
+            tables.slot_count,
+            tables.register_count,
+            register,
+        );
+        if expected != got {
+            return Err(format!(
+                "difference after call {} of seed {}: usable {register}: expected {expected}, got {got}\n\
+                 slot count {}, register count {}, rows\n{}",
+                self.counts.calls(),
+                self.counts.seed,
+                tables.slot_count,
+                tables.register_count,
+                show_rows(tables)
+            ));
+        }
+        self.counts.usable[usize::from(got)] += 1;
+        Ok(got)
+    }
+
+    /// `usable` of a random register, and of the edges.
+    pub fn some_usable(&mut self, tables: &Tables) -> Result<(), String> {
+        let count = tables.register_count;
+        for register in [0, 1, self.generator.between(1, count.max(1)), count, count + 1] {
+            self.usable(tables, register)?;
+        }
+        if self.generator.chance(10) {
+            self.usable(tables, usize::MAX)?;
+        }
+        Ok(())
+    }
+
+    /// `usable` of every register where the paper fixes in words which are, so that `usable` is checked as well.
+    pub fn expect_usable(&mut self, tables: &Tables, due: &dyn Fn(usize) -> bool) -> Result<(), String> {
+        let count = tables.register_count;
+        // The last two would be 1 and 2 if they were cut to fewer bits.
+        let beyond = [count + 1, 256, 257, 65_537, usize::MAX, usize::MAX / 2 + 2, usize::MAX / 2 + 3];
+        for register in (0..=count).chain(beyond) {
+            let came = self.usable(tables, register)?;
+            if came != due(register) {
+                return Err(format!("both engines say {came} to usable {register}\n{}", show_rows(tables)));
+            }
+        }
+        Ok(())
+    }
+}
+
+/// The fields of a response sorted, after its header and status; nothing when its checksum is wrong.
+/// The sequence of SM?GL's list is open (document 01, "Slots and registers").
+fn sorted(response: &[u8]) -> Option<(&[u8], Vec<&[u8]>)> {
+    let covered = &response[..response.len() - 5];
+    let (head, payload) = covered.split_at(7);
+    let mut fields: Vec<&[u8]> = payload.split_inclusive(|&byte| byte == b'~').collect();
+    fields.sort();
+    (requests::frame(head, payload) == response).then_some((head, fields))
 }
 
 fn describe(before: &Tables, supplement: &Supplement, request: &[u8], buffer: usize, filling: &[u8]) -> String {
@@ -318,6 +398,8 @@ pub fn try_run(engine: &mut dyn Engine, calls: u64, seed: u64) -> Result<Counts,
     let mut bench = Bench::new(engine, seed);
     bench.part("named cases");
     parts::named_cases(&mut bench)?;
+    bench.part("reading");
+    parts::reading(&mut bench)?;
     bench.part("row counts");
     parts::row_counts(&mut bench)?;
     bench.part("buffers");

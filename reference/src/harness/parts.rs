@@ -9,16 +9,17 @@ use crate::{crc, records, Command, RegisterRow, SlotRow};
 
 /// Cases whose outcome the paper says in words; each refusal is among them.
 pub fn named_cases(bench: &mut Bench) -> Result<(), String> {
-    let built = bench.built();
     let supplement = scenes::supplement();
-    let full = full_tables(8, 32);
+    let full = full_tables(8, 32, LOADING);
     let mut not_passed = supplement;
     not_passed.passed = 0;
 
-    // Acceptance of every command.
-    for &command in &built {
-        for request in good(command) {
-            bench.expect(0, &mut scenes::tables(), &supplement, &request, 1024)?;
+    // Acceptance of every command; the scenes have one key that is usable.
+    bench.expect_usable(&scenes::tables(), &|register| register == 2)?;
+    for mut scene in scenes::all() {
+        bench.expect(0, &mut scene.tables, &scene.supplement, &scene.request, 1024)?;
+        for register in 0..=4 {
+            bench.usable(&scene.tables, register)?;
         }
     }
     // 5: length, and the only carriage return at the end.
@@ -40,15 +41,14 @@ pub fn named_cases(bench: &mut Bench) -> Result<(), String> {
         bench.expect(7, &mut scenes::tables(), &supplement, &requests::frame(header, b""), 1024)?;
     }
     bench.expect(7, &mut scenes::tables(), &supplement, b"SM?JUNK420B\r", 1024)?;
-    for command in Command::ALL.into_iter().filter(|command| !built.contains(command)) {
-        bench.expect(7, &mut scenes::tables(), &supplement, &requests::bare(command), 1024)?;
-    }
     // 8: each fault of a field.
     for payload in
         ["", "N", "N~", "N01~", "N2147483648~", "N1", "P1~", "D20140103154054~", "H01~", "N1~N1~", "N1~~", "N1 ~", "~"]
     {
-        let request = requests::frame(Command::KD.header(), payload.as_bytes());
-        bench.expect(8, &mut scenes::tables(), &supplement, &request, 1024)?;
+        for command in [Command::KD, Command::GA] {
+            let request = requests::frame(command.header(), payload.as_bytes());
+            bench.expect(8, &mut scenes::tables(), &supplement, &request, 1024)?;
+        }
     }
     for payload in [
         &b""[..],
@@ -63,14 +63,19 @@ pub fn named_cases(bench: &mut Bench) -> Result<(), String> {
         b"P\0~",
         b"PKMC2~~",
     ] {
-        for command in [Command::KF, Command::KX, Command::KC, Command::KR, Command::KL] {
+        for command in [Command::KF, Command::KX, Command::KQ, Command::KC, Command::KR, Command::KL] {
             // Two strings are the fields of KL, and the second one is no record.
             let outcome = if command == Command::KL && payload == b"PKMC2~P~" { 9 } else { 8 };
             let request = requests::frame(command.header(), payload);
             bench.expect(outcome, &mut scenes::tables(), &supplement, &request, 1024)?;
         }
     }
-    bench.expect(8, &mut scenes::tables(), &supplement, &requests::frame(b"GL?RS", b"N1~"), 1024)?;
+    for command in [Command::RS, Command::GL] {
+        for payload in [&b"N1~"[..], b"P~", b"~", b" "] {
+            let request = requests::frame(command.header(), payload);
+            bench.expect(8, &mut scenes::tables(), &supplement, &request, 1024)?;
+        }
+    }
     // 9: type, count of fields, last delimiter, checksum in small letters, bytes after it.
     let identity = kmc(b"KMC1");
     let five: [&[u8]; 5] = [&identity, b"04", b"20130303T153840Z", b"", b""];
@@ -175,7 +180,7 @@ pub fn named_cases(bench: &mut Bench) -> Result<(), String> {
     }
     // 12: names that are none.
     for slot in [&b""[..], b"kmc2", b"KMC", b"KMC22", b"KMC4", b"_", &[b'k'; 41], b"KMC2 "] {
-        for command in [Command::KF, Command::KX] {
+        for command in [Command::KF, Command::KX, Command::KQ] {
             bench.expect(12, &mut scenes::tables(), &supplement, &requests::of_slot(command, slot), 1024)?;
         }
         bench.expect(12, &mut scenes::tables(), &supplement, &requests::load(slot, b"00", CARD, b"00"), 1024)?;
@@ -194,7 +199,7 @@ pub fn named_cases(bench: &mut Bench) -> Result<(), String> {
     // 14: in each state.
     for (state, kr, kl, kf) in [(PENDING, 0, 14, 0), (LOADING, 14, 0, 0), (IDLE, 14, 14, 14)] {
         let mut tables = Tables::empty(1, 1);
-        tables.put_slot(0, state, b"KMC1", FINGERPRINT, if state == PENDING { CLOCK } else { b"" });
+        put_slot(&mut tables, 0, state, b"KMC1");
         bench.expect(
             kr,
             &mut tables.clone(),
@@ -244,22 +249,107 @@ pub fn named_cases(bench: &mut Bench) -> Result<(), String> {
     bench.expect(0, &mut full.clone(), &supplement, &load(held.as_bytes()), 1024)?;
     // 21: free, 0, beyond the rows.
     for register in [0, 3, 4, 32, 33, 255, 256, 65_537, 2_147_483_647] {
-        bench.expect(21, &mut scenes::tables(), &supplement, &requests::of_register(Command::KD, register), 1024)?;
+        for command in [Command::KD, Command::GA] {
+            bench.expect(21, &mut scenes::tables(), &supplement, &requests::of_register(command, register), 1024)?;
+        }
     }
     Ok(())
 }
 
-/// Sound rows in every place that the counts cover (as far as 9 and 33 reach).
-fn full_tables(slot_count: usize, register_count: usize) -> Tables {
+/// A name of 40 bytes.
+fn long_name(place: usize) -> Vec<u8> {
+    format!("{place}{}", "k".repeat(39)).into_bytes()
+}
+
+/// SM?KQ, SM?GL, SM?GA and `usable` over rows chosen for them.
+pub fn reading(bench: &mut Bench) -> Result<(), String> {
+    let supplement = scenes::supplement();
+    let states = [PENDING, LOADING, IDLE];
+    for state in states {
+        for other in states {
+            for keys in 0..=32 {
+                two_slots(bench, state, other, keys)?;
+            }
+        }
+    }
+    // Lists: every choice of eight rows.
+    for choice in 0..=u8::MAX {
+        let mut tables = Tables::empty(8, 1);
+        for place in (0..8).filter(|place| choice >> place & 1 == 1) {
+            put_slot(&mut tables, place, states[place % 3], &long_name(place));
+        }
+        bench.expect(0, &mut tables, &supplement, &requests::bare(Command::GL), 1024)?;
+        let listed = bench.answer().iter().filter(|&&byte| byte == b'~').count();
+        if listed != choice.count_ones() as usize {
+            return Err(format!("{listed} slots listed of the rows {choice:08b}"));
+        }
+    }
+    // The longest card and the shortest.
+    let longest = card_of(0, &long_name(0)).replace("VND0", "VND999999999");
+    let shortest = card_of(1, b"k").replace("KEN255", "KEN0").replace("ULM999999999", "ULM0");
+    assert_eq!((longest.len(), shortest.len()), (202, 145));
+    let mut tables = Tables::empty(2, 2);
+    put_slot(&mut tables, 0, IDLE, b"k");
+    put_slot(&mut tables, 1, LOADING, &long_name(0));
+    tables.put_card(0, longest.as_bytes());
+    tables.put_card(1, shortest.as_bytes());
+    for (register, card) in [(1, longest), (2, shortest)] {
+        bench.expect(0, &mut tables, &supplement, &requests::of_register(Command::GA, register), 1024)?;
+        if bench.answer() != requests::frame(b"SM!GA", format!("00P{card}~").as_bytes()) {
+            return Err(format!("register {register} does not tell its card"));
+        }
+    }
+    bench.expect_usable(&tables, &|register| register == 2)
+}
+
+/// A slot in a state with some of 32 keys, and one beside it with the others; then the first alone.
+fn two_slots(bench: &mut Bench, state: u8, other: u8, keys: usize) -> Result<(), String> {
+    let supplement = scenes::supplement();
+    let name = long_name(0);
+    let mut tables = Tables::empty(2, 32);
+    put_slot(&mut tables, 0, other, b"k");
+    put_slot(&mut tables, 1, state, &name);
+    // `keys` of the places, spread.
+    let first = |place: usize| place * 5 % 32 < keys;
+    for place in 0..32 {
+        tables.put_card(place, card_of(place, if first(place) { &name } else { b"k" }).as_bytes());
+    }
+    for slot in [&name[..], b"k"] {
+        bench.expect(0, &mut tables, &supplement, &requests::of_slot(Command::KQ, slot), 1024)?;
+    }
+    bench.expect_usable(&tables, &|register| {
+        (1..=32).contains(&register) && IDLE == if first(register - 1) { state } else { other }
+    })?;
+    bench.expect(0, &mut tables, &supplement, &requests::of_slot(Command::KX, b"k"), 1024)?;
+    bench.expect(0, &mut tables, &supplement, &requests::of_slot(Command::KQ, &name), 1024)?;
+    for register in 0..=33 {
+        let filled = (1..=32).contains(&register) && first(register - 1);
+        let request = requests::of_register(Command::GA, register as u64);
+        bench.expect(if filled { 0 } else { 21 }, &mut tables, &supplement, &request, 1024)?;
+    }
+    Ok(())
+}
+
+fn put_slot(tables: &mut Tables, place: usize, state: u8, name: &[u8]) {
+    tables.put_slot(place, state, name, FINGERPRINT, if state == PENDING { CLOCK } else { b"" });
+}
+
+/// A card as stored, of a slot; no two places have the same SGC.
+fn card_of(place: usize, slot: &[u8]) -> String {
+    STORED
+        .replace("SGC0000123457", &format!("SGC{place:010}"))
+        .replace("KSLKMC1", &format!("KSL{}", String::from_utf8_lossy(slot)))
+}
+
+/// Sound rows in every place that the counts cover (as far as 9 and 33 reach), the slots in one state.
+fn full_tables(slot_count: usize, register_count: usize, state: u8) -> Tables {
     let mut tables = Tables::empty(slot_count, register_count);
     for place in 0..slot_count {
-        tables.put_slot(place, LOADING, format!("KMC{}", place + 1).as_bytes(), FINGERPRINT, b"");
+        put_slot(&mut tables, place, state, format!("KMC{}", place + 1).as_bytes());
     }
     for place in 0..register_count {
-        let card = STORED
-            .replace("SGC0000123457", &format!("SGC{place:010}"))
-            .replace("KSLKMC1", &format!("KSLKMC{}", place % slot_count.max(1) + 1));
-        tables.put_card(place, card.as_bytes());
+        let slot = format!("KMC{}", place % slot_count.max(1) + 1);
+        tables.put_card(place, card_of(place, slot.as_bytes()).as_bytes());
     }
     tables
 }
@@ -275,11 +365,20 @@ pub fn row_counts(bench: &mut Bench) -> Result<(), String> {
         load(CARD),
         requests::of_slot(Command::KX, b"KMC1"),
         requests::of_register(Command::KD, 1),
+        requests::bare(Command::GL),
+        requests::of_register(Command::GA, 32),
+        requests::of_slot(Command::KQ, b"KMC8"),
         b"SM?DI0000\r".to_vec(),
     ];
     for slot_count in 0..=9 {
         for register_count in 0..=33 {
-            for mut tables in [Tables::empty(slot_count, register_count), full_tables(slot_count, register_count)] {
+            let in_range = (1..=8).contains(&slot_count) && (1..=32).contains(&register_count);
+            for mut tables in [
+                Tables::empty(slot_count, register_count),
+                full_tables(slot_count, register_count, LOADING),
+                full_tables(slot_count, register_count, IDLE),
+            ] {
+                let idle = in_range && tables.slots[0].state == IDLE;
                 for beyond in [0, 0xFF] {
                     for row in &mut tables.slots[slot_count..] {
                         row.state = beyond;
@@ -289,11 +388,11 @@ pub fn row_counts(bench: &mut Bench) -> Result<(), String> {
                     }
                     for request in &asked {
                         let came = bench.call(&mut tables.clone(), &supplement, request, 1024)?;
-                        let in_range = (1..=8).contains(&slot_count) && (1..=32).contains(&register_count);
                         if in_range == (came == 1) {
                             return Err(format!("{slot_count} slots and {register_count} registers gave {came}"));
                         }
                     }
+                    bench.expect_usable(&tables, &|register| idle && (1..=register_count).contains(&register))?;
                 }
             }
         }
@@ -306,7 +405,7 @@ pub fn buffers(bench: &mut Bench) -> Result<(), String> {
     let mut longest = scenes::supplement();
     longest.request = [b'}'; 700];
     longest.request_length = 700;
-    let mut asked: Vec<Vec<u8>> = bench.built().iter().flat_map(|&command| good(command)).collect();
+    let mut asked: Vec<Vec<u8>> = Command::ALL.into_iter().flat_map(good).collect();
     // The longest response: a name of 40 bytes and a load request of 700.
     asked.push(begin(&[b'k'; 40]));
     asked.extend([
@@ -482,8 +581,21 @@ pub fn rows(bench: &mut Bench) -> Result<(), String> {
     // The slot of a key is free.
     cases.push((3, slot(&|slots| slots[0] = SlotRow::FREE)));
 
-    for (outcome, tables) in &mut cases {
-        bench.expect(*outcome, tables, &supplement, &request, 1024)?;
+    for (outcome, tables) in &cases {
+        for register in 1..=3 {
+            bench.usable(tables, register)?;
+        }
+        let mut after = tables.clone();
+        bench.expect(*outcome, &mut after, &supplement, &request, 1024)?;
+        // Of unsound rows no key is usable; after a reset each one is.
+        let filled = |register: usize| (1..=3).contains(&register) && !tables.registers[register - 1].is_free();
+        bench.expect_usable(&after, &|register| *outcome == 0 && filled(register))?;
+        if *outcome == 0 {
+            for request in [Command::GA, Command::GL, Command::KQ].into_iter().flat_map(good) {
+                bench.call(&mut tables.clone(), &supplement, &request, 1024)?;
+            }
+            bench.expect(0, &mut tables.clone(), &supplement, &requests::of_register(Command::GA, 1), 1024)?;
+        }
     }
     // 3 comes before 4, and before all that a request can have wrong.
     for (outcome, tables) in cases.iter().filter(|(outcome, _)| *outcome == 3) {
@@ -504,6 +616,7 @@ pub fn rows(bench: &mut Bench) -> Result<(), String> {
                     41..=56 => row.fingerprint[byte - 41] = value,
                     _ => row.tvp[byte - 57] = value,
                 }
+                bench.usable(&tables, 2)?;
                 bench.call(&mut tables, &supplement, &request, 1024)?;
             }
         }
@@ -511,6 +624,7 @@ pub fn rows(bench: &mut Bench) -> Result<(), String> {
             for byte in 0..256 {
                 let mut tables = scenes::tables();
                 tables.registers[place].card[byte] = value;
+                bench.usable(&tables, 2)?;
                 bench.call(&mut tables, &supplement, &request, 1024)?;
             }
         }
@@ -593,7 +707,7 @@ pub fn supplements(bench: &mut Bench) -> Result<(), String> {
     for passed in 2..=255 {
         put(4, &|supplement| supplement.passed = passed);
     }
-    let mut asked: Vec<Vec<u8>> = bench.built().iter().map(|&command| good(command).remove(0)).collect();
+    let mut asked = Command::ALL.map(|command| good(command).remove(0)).to_vec();
     asked.push(Vec::new());
     for (outcome, supplement) in &cases {
         if *outcome == 4 {
@@ -617,12 +731,11 @@ pub fn supplements(bench: &mut Bench) -> Result<(), String> {
 
 /// Several faults at once, so that the sequence of the questions shows.
 pub fn mixed(bench: &mut Bench, calls: u64, seed: u64) -> Result<(), String> {
-    let mut world = World::new(bench.built(), seed ^ 0x313);
-    let mut tables = world.tables();
+    let mut world = World::new(seed ^ 0x313);
+    let mut tables = world.filled();
     for _ in 0..calls {
         if world.generator.chance(2) {
-            tables = world.tables();
-            world.forget();
+            tables = if world.generator.chance(50) { world.filled() } else { world.tables() };
         }
         let mut supplement = world.supplement();
         let request = world.request(&tables, &supplement);
@@ -642,6 +755,7 @@ pub fn mixed(bench: &mut Bench, calls: u64, seed: u64) -> Result<(), String> {
             }
         }
         bench.call(&mut faulty, &supplement, &request, buffer)?;
+        bench.some_usable(&faulty)?;
         // Rows that were spoiled serve one call only.
         if !faults {
             tables = faulty;

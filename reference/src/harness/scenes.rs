@@ -41,7 +41,7 @@ pub fn kmc(name: &[u8]) -> Vec<u8> {
     requests::identity(b"KMCID.1", b"ArbSWID", name, b"20040101T120000Z", FINGERPRINT)
 }
 
-/// A request that `tables()` accept; of KC and KL there are two.
+/// Requests that `tables()` accept; SM?KQ has one for each state.
 pub fn good(command: Command) -> Vec<Vec<u8>> {
     match command {
         Command::RS | Command::GL => vec![requests::bare(command)],
@@ -49,7 +49,8 @@ pub fn good(command: Command) -> Vec<Vec<u8>> {
         Command::KR => vec![requests::respond(&kmc(b"KMC2"), &own_identity(), CLOCK, TAG)],
         Command::KL => vec![load(CARD), load(FULL_CARD)],
         Command::KF => vec![requests::of_slot(command, b"KMC2")],
-        Command::KX | Command::KQ => vec![requests::of_slot(command, b"KMC3")],
+        Command::KX => vec![requests::of_slot(command, b"KMC3")],
+        Command::KQ => [b"KMC1", b"KMC2", b"KMC3"].map(|slot| requests::of_slot(command, slot)).to_vec(),
         Command::KD | Command::GA => vec![requests::of_register(command, 2)],
     }
 }
@@ -62,8 +63,8 @@ pub fn load(card: &[u8]) -> Vec<u8> {
     requests::load(b"KMC1", b"00000A", card, b"42A08D")
 }
 
-pub fn all(built: &[Command]) -> Vec<Scene> {
-    let requests = built.iter().flat_map(|&command| good(command));
+pub fn all() -> Vec<Scene> {
+    let requests = Command::ALL.into_iter().flat_map(good);
     requests
         .map(|request| Scene {
             tables: tables(),

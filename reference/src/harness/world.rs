@@ -1,15 +1,24 @@
-//! Random requests and supplements over three centres, few supply groups and few
+//! Random rows, requests and supplements over few centres, supply groups and
 //! revisions, so that histories meet the same slots and keys again and again.
 
 use super::edits;
 use super::generator::Generator;
 use super::requests;
 use super::tables::Tables;
-use crate::rows::{LOADING, PENDING};
-use crate::{Command, Supplement};
+use crate::rows::{self, FREE, IDLE, LOADING, PENDING};
+use crate::{cards, Command, Supplement};
 
-/// One name is the start of another, and one fills its place in a row.
-pub const CENTRES: [&[u8]; 3] = [b"KMC", b"KMC1", b"k-234567890_234567890.234567890,23456789"];
+/// Some names are the start of others, and five fill their place in a row.
+const CENTRES: [&[u8]; 8] = [
+    b"KMC",
+    b"KMC1",
+    b"k-234567890_234567890.234567890,23456789",
+    b"K",
+    b"k-234567890_234567890.234567890,2345678A",
+    b"KMC-567890123456789012345678901234567890",
+    b"0000000000000000000000000000000000000000",
+    b"kmc-567890123456789012345678901234567890",
+];
 const GROUPS: [&str; 3] = ["0000123456", "0000123457", "9999999999"];
 const TAGS: [&[u8; 48]; 2] =
     [b"A9FE9315B7456852D261B5A42364C4F5AF9693DB0D6931B6", b"A9FE9315B7456852D261B5A42364C4F5AF9693DB0D6931B7"];
@@ -21,29 +30,62 @@ pub fn own_identity() -> Vec<u8> {
 
 pub struct World {
     pub generator: Generator,
-    built: Vec<Command>,
-    /// How many supply groups and revisions the cards take.
-    pub groups: usize,
-    pub revisions: usize,
+    /// How many centres the requests take, and supply groups and revisions the cards.
+    centres: usize,
+    groups: usize,
+    revisions: usize,
     /// Requests of this history, to be repeated.
     sent: Vec<Vec<u8>>,
 }
 
 impl World {
-    pub fn new(built: Vec<Command>, seed: u64) -> Self {
-        World { generator: Generator::new(seed), built, groups: 3, revisions: 3, sent: Vec::new() }
+    pub fn new(seed: u64) -> Self {
+        World { generator: Generator::new(seed), centres: 3, groups: 3, revisions: 3, sent: Vec::new() }
     }
 
-    pub fn forget(&mut self) {
-        self.sent.clear();
-    }
-
-    /// Counts of small tables, sometimes of the largest.
+    /// Empty tables for a new history: small ones, sometimes up to the largest.
     pub fn tables(&mut self) -> Tables {
         let generator = &mut self.generator;
         let slots = if generator.chance(85) { generator.between(1, 3) } else { generator.between(1, 8) };
         let registers = if generator.chance(85) { generator.between(1, 5) } else { generator.between(1, 32) };
+        self.empty(slots, registers)
+    }
+
+    fn empty(&mut self, slots: usize, registers: usize) -> Tables {
+        self.sent.clear();
+        // More centres than slots and more keys than registers in large tables too.
+        self.centres = if slots > 3 && self.generator.chance(70) { 8 } else { 3 };
+        (self.groups, self.revisions) = if registers > 9 && self.generator.chance(70) { (9, 9) } else { (3, 3) };
         Tables::empty(slots, registers)
+    }
+
+    /// Sound rows, also those that no history reaches: keys in every state, VND above 0.
+    pub fn filled(&mut self) -> Tables {
+        let (slots, registers) = (self.generator.between(1, 8), self.generator.between(1, 32));
+        let mut tables = self.empty(slots, registers);
+        for (place, name) in CENTRES.iter().enumerate().take(slots) {
+            let state = *self.generator.pick(&[FREE, PENDING, LOADING, IDLE, IDLE]);
+            if state != FREE {
+                let tvp = self.generator.timestamp();
+                let tvp: &[u8] = if state == PENDING { &tvp } else { b"" };
+                tables.put_slot(place, state, name, *self.generator.pick(&FINGERPRINTS), tvp);
+            }
+        }
+        let names = tables.names_in(&[PENDING, LOADING, IDLE]);
+        for place in 0..registers {
+            let text = self.card(false);
+            let card = cards::incoming(&text).expect("a card in form");
+            let held = rows::register_holding(tables.registers(), card.pair()).is_some();
+            if names.is_empty() || held || self.generator.chance(20) {
+                continue;
+            }
+            let (slot, check) = (self.generator.pick(&names), self.generator.hex(6));
+            let space = cards::store(&card, slot, &check);
+            let start = cards::written(&space).strip_suffix(b"0;").expect("VND is 0");
+            let vended = *self.generator.pick(&[&b"0;"[..], b"1;", b"398674;", b"999999999;"]);
+            tables.put_card(place, &[start, vended].concat());
+        }
+        tables
     }
 
     /// Well formed, but for `passed` in one call of twelve.
@@ -116,14 +158,16 @@ impl World {
     /// A request right in its frame, and mostly one that the tables would accept.
     fn good(&mut self, tables: &Tables, supplement: &Supplement) -> Vec<u8> {
         let command = match self.generator.below(100) {
-            0..=19 => Command::KC,
-            20..=41 => Command::KR,
-            42..=71 => Command::KL,
-            72..=78 => Command::KF,
-            79..=83 => Command::KX,
-            84..=89 => Command::KD,
-            90..=91 => Command::RS,
-            _ => *self.generator.pick(&self.built),
+            0..=17 => Command::KC,
+            18..=37 => Command::KR,
+            38..=64 => Command::KL,
+            65..=71 => Command::KF,
+            72..=75 => Command::KX,
+            76..=80 => Command::KD,
+            81..=82 => Command::RS,
+            83..=87 => Command::GA,
+            88..=92 => Command::GL,
+            _ => Command::KQ,
         };
         match command {
             Command::RS | Command::GL => requests::bare(command),
@@ -141,7 +185,7 @@ impl World {
                 requests::of_slot(command, &slot)
             }
             Command::KX | Command::KQ => {
-                let slot = self.slot(tables, &[1, 2, 3]);
+                let slot = self.slot(tables, &[PENDING, LOADING, IDLE]);
                 requests::of_slot(command, &slot)
             }
             Command::KD | Command::GA => {
@@ -159,7 +203,7 @@ impl World {
 
     fn begin(&mut self, supplement: &Supplement) -> Vec<u8> {
         let forged = if self.generator.chance(12) { self.generator.below(8) } else { usize::MAX };
-        let name = *self.generator.pick(&CENTRES);
+        let name = *self.generator.pick(&CENTRES[..self.centres]);
         let fingerprint = *self.generator.pick(&FINGERPRINTS);
         let kmc = match forged {
             0 => requests::identity(b"KMCID.1", b"Soft ware", name, b"20130301T173830Z", fingerprint),
@@ -240,7 +284,7 @@ impl World {
             b"k-234567890_234567890.234567890,2345678",
         ];
         if self.generator.chance(80) {
-            self.generator.pick(&CENTRES).to_vec()
+            self.generator.pick(&CENTRES[..self.centres]).to_vec()
         } else {
             self.generator.pick(&strangers).to_vec()
         }

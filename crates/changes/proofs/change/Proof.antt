@@ -1,6 +1,6 @@
 -- `changes::change` meets its contract, an arm at a time.
 use Rattle.rows.proofs.PlaceCounts.{eight}
-use Rattle.changes.proofs.ChangeLaws.{cans, refused-keeps, reset-made, pend-made, open-made, load-made, finish-made, delete-made, clear-made}
+use Rattle.changes.proofs.ChangeLaws.{cans, keeps, reset-made, pend-made, open-made, load-made, finish-made, delete-made, clear-made}
 use borrow.Author.Needs.{needs}
 use Rattle.changes.proofs.change.Statement.{statement}
 use Rattle.changes.proofs.change.Tie as tie
@@ -9,7 +9,6 @@ pub change-spec : {M : Type 1} → statement M
 change-spec =
     tie.close
     (tie.spec
-    (λ c. search needs)
     (λ c. search needs)
     (λ c κs. search cans)
     (λ c. search needs)
@@ -42,7 +41,7 @@ change-spec =
     (λ c κs. search needs)
     (λ c. search (cans, needs))
     (λ c. search (cans, needs))
-    (λ c. search refused-keeps)
+    (λ c. search keeps)
     (λ c. search reset-made)
     (λ c. search pend-made)
     (λ c. search (open-made, eight, cans))

@@ -1,5 +1,5 @@
 -- `core::handle` meets its contract: demands 1 and 2.
-use Rattle.core.proofs.HandleLaws.{responds, changes, outcome-right, rows-right, length-right, buffer-right}
+use Rattle.core.proofs.HandleLaws.{responds, changes, outcome-right, rows-right, responded}
 use borrow.Author.Needs.{needs}
 use Rattle.core.proofs.handle.Statement.{statement}
 use Rattle.core.proofs.handle.Tie as tie
@@ -14,4 +14,4 @@ handle-spec =
     (λ c κs. search needs)
     (λ c κs. search changes)
     (λ c. search needs)
-    (λ c. (search outcome-right, (search length-right, (search buffer-right, search rows-right)))))
+    (λ c. (search outcome-right, (search responded, search rows-right))))

@@ -12,4 +12,4 @@ diminurel-handle-spec =
     (λ c κs. search needs)
     (λ c κs. search needs)
     (λ c. search needs)
-    (λ c. (search number-of, (search byte-of, (search needs, (search needs, search needs))))))
+    (λ c. (search number-of, (search byte-of, (search needs, search needs)))))

@@ -1,5 +1,5 @@
 -- `register_tables::is_owned` meets its contract, a law a return.
-use Rattle.register_tables.proofs.KeyLaws.{vacant-owned, filled-owned}
+use Rattle.register_tables.proofs.OwnerLaws.{vacant-owned, filled-owned}
 use borrow.Author.Needs.{needs}
 use Rattle.register_tables.proofs.is_owned.Statement.{statement}
 use Rattle.register_tables.proofs.is_owned.Tie as tie

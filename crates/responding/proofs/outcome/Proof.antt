@@ -1,5 +1,5 @@
 -- `responding::outcome` meets its contract, an arm at a time.
-use Rattle.responding.proofs.RespondLaws.{outcome-arm}
+use Rattle.responding.proofs.RespondLaws.{outcome-arm, done-arm}
 use borrow.Author.Needs.{needs}
 use Rattle.responding.proofs.outcome.Statement.{statement}
 use Rattle.responding.proofs.outcome.Tie as tie
@@ -14,13 +14,10 @@ outcome-spec =
     (λ c. search needs)
     (λ c. search needs)
     (λ c. search needs)
-    (λ c. search needs)
-    (λ c. search needs)
-    (λ c. search outcome-arm)
-    (λ c. search needs)
     (λ c. search outcome-arm)
     (λ c. search outcome-arm)
     (λ c. search outcome-arm)
     (λ c. search outcome-arm)
     (λ c. search outcome-arm)
-    (λ c. search needs))
+    (λ c. search outcome-arm)
+    (λ c. search done-arm))

@@ -1,5 +1,6 @@
 -- `responding::respond` meets its contract, an arm at a time.
-use Rattle.responding.proofs.RespondLaws.{known, written-arm}
+use Rattle.rows.proofs.PlaceCounts.{eight, thirty-two}
+use Rattle.responding.proofs.RespondLaws.{known, plain-room, written-arm, plain-arm, show-place, show-written, query-place, query-written}
 use borrow.Author.Needs.{needs}
 use Rattle.responding.proofs.respond.Statement.{statement}
 use Rattle.responding.proofs.respond.Tie as tie
@@ -16,15 +17,18 @@ respond-spec =
     (λ c κs. search known)
     (λ c. search needs)
     (λ c κs. search known)
+    (λ c κs. search plain-room)
     (λ c. search needs)
+    (λ c. search (known, needs))
+    (λ c. search (known, needs))
     (λ c κs. search known)
     (λ c. search needs)
     (λ c κs. search known)
     (λ c. search needs)
+    (λ c. search (known, needs))
+    (λ c. search (known, needs))
     (λ c κs. search known)
     (λ c. search needs)
-    (λ c κs. search known)
-    (λ c. search needs)
     (λ c. (search written-arm, search needs))
     (λ c. search needs)
     (λ c. (search written-arm, search needs))
@@ -33,10 +37,10 @@ respond-spec =
     (λ c. search needs)
     (λ c. (search written-arm, search needs))
     (λ c. search needs)
-    (λ c. (search written-arm, search needs))
+    (λ c. (search plain-arm, search needs))
+    (λ c. search needs)
+    (λ c. (search (show-written, thirty-two, show-place), search needs))
     (λ c. search needs)
     (λ c. (search written-arm, search needs))
     (λ c. search needs)
-    (λ c. (search written-arm, search needs))
-    (λ c. search needs)
-    (λ c. (search written-arm, search needs)))
+    (λ c. (search (query-written, eight, query-place), search needs)))

@@ -1,0 +1,129 @@
+-- SM?GA, SM?GL and SM?KQ in whole requests: the bytes of their answers are what the definition computes. The last is the example of 001 clause 5.3.3. And which key may vend, computed.
+use mathlib.Core.Path.{_≡_, refl}
+use mathlib.Core.Bool.{true, false}
+use mathlib.Core.List.{List, [], _∷_}
+use Prim.Native.Nat.{ℕ}
+use lib.ListN.{replicate}
+use Rattle.crc.specs.Crc.{crcBit, crcEight, crcByte}
+use Rattle.hexadecimal.specs.Hex.{hexDigit, hexValue, fromDigits, readHex4}
+use Rattle.checksum.specs.Checksum.{sumDigits, endsInSum}
+use Rattle.text.specs.Classes.{isAlphanumeric, areAll}
+use Rattle.text.specs.Identifiers.{isIdentifier}
+use Rattle.decimals.specs.Decimals.{isUnpadded, isNumber}
+use Rattle.calendar.specs.Calendar.{daysIn, isDate, isTime}
+use Rattle.timestamp.specs.Timestamps.{momentOf, timestampOf, isTimestamp}
+use Rattle.decimal_writer.specs.Digits.{decDigits, decimalBytes}
+use Rattle.fields.specs.Values.{isOctets, typed, valuesOf, contentBytes}
+use Rattle.frames.specs.Frames.{endsInReturn, isWhole, isChecked, textOf, headerOf, payloadOf, ending, framed, answered, headBytes}
+use Rattle.commands.specs.Commands.{headers, commandOf}
+use Rattle.responses.specs.Responses.{responseBytes}
+use Rattle.records.specs.Records.{bodyOf, field, isRecord}
+use Rattle.forms.specs.Forms.{isAlgorithm}
+use Rattle.attributes.specs.Table.{table}
+use Rattle.cards.specs.Entries.{nameOf, valueOf}
+use Rattle.incoming_cards.specs.Incoming.{fits, isCardFrom, isMet, isIncoming}
+use Rattle.stored_cards.specs.Stored.{inRow, isEntryOf, isStored}
+use Rattle.identities.specs.Identities.{identityInForm}
+use Rattle.key_records.specs.KeyRecords.{keyInForm}
+use Rattle.rows.specs.Lists.{padded, trimmed}
+use Rattle.rows.specs.Registers.{isVacant, attributeOf, isKeyOf, isUnder, isRegisterSound, isSameKey, freeRegister, filledRegister}
+use Rattle.rows.specs.Slots.{isZeroSlot, isNamed, isFilledSlot, isSlotSound, isSameSlot, freeSlot, filledSlot}
+use Rattle.rows.specs.Reports.{slotNames, stateText, slotFields, queryFields}
+use Rattle.rows.specs.Sound.{isOwned, areSound}
+use Rattle.rows.specs.Supplements.{isIdentityRight, isLoadRequestRight, isWellFormed}
+use Rattle.engine.specs.Requests.{areFieldsOf, recordIn, slotIn}
+use Rattle.engine.specs.Questions.{slotNamed, areCounts, isFilled, questions}
+use Rattle.engine.specs.Answers.{refused, listed, answerOf}
+use Rattle.engine.specs.Answers as answers
+use Rattle.engine.specs.Words.{Lent, callOf}
+use Rattle.rows.specs.declared.SlotState.the-variants.{Pending, Loading, Idle}
+use Rattle.rows.specs.declared.SlotState.{SlotState}
+use Rattle.rows.specs.declared.SlotRow.{SlotRow}
+use Rattle.rows.specs.declared.Tables.{Tables}
+use Rattle.engine.specs.Usable.{isUsable}
+use Rattle.sample_run.specs.Run.{clock, hand, a, b, printA, printB, cardB, lent}
+
+-- slot A is PENDING, slot B IDLE with its key in register 1, and register 2 is free
+abbrev pub reported : Lent
+reported = lent (filledSlot Pending a printA clock) (filledSlot Idle b printB []) (filledRegister cardB)
+
+-- a request, the sequence in which SM?GL lists the slots, and the answer
+pub record Report : Type 0 where
+  pub request : List ℕ
+  pub sequence : List (List ℕ)
+  pub answer : List ℕ
+
+-- SM?GL6991: SM!GL00PA~PB~7FFA
+abbrev pub rowByRow : Report
+rowByRow = record {
+  request = 83 ∷ 77 ∷ 63 ∷ 71 ∷ 76 ∷ 54 ∷ 57 ∷ 57 ∷ 49 ∷ 13 ∷ [];
+  sequence = a ∷ b ∷ [];
+  answer = 83 ∷ 77 ∷ 33 ∷ 71 ∷ 76 ∷ 48 ∷ 48 ∷ 80 ∷ 65 ∷ 126 ∷ 80 ∷ 66 ∷ 126 ∷ 55 ∷ 70 ∷ 70 ∷ 65 ∷ 13 ∷ [];
+}
+
+-- SM?GL6991: SM!GL00PB~PA~8FBE
+abbrev pub turned : Report
+turned = record {
+  request = 83 ∷ 77 ∷ 63 ∷ 71 ∷ 76 ∷ 54 ∷ 57 ∷ 57 ∷ 49 ∷ 13 ∷ [];
+  sequence = b ∷ a ∷ [];
+  answer = 83 ∷ 77 ∷ 33 ∷ 71 ∷ 76 ∷ 48 ∷ 48 ∷ 80 ∷ 66 ∷ 126 ∷ 80 ∷ 65 ∷ 126 ∷ 56 ∷ 70 ∷ 66 ∷ 69 ∷ 13 ∷ [];
+}
+
+-- SM?KQPA~B1D9: SM!KQ00PPENDING~PA~P~H~P20260101T000000Z~HAAAAAAAAAAAAAAAA~CB31
+abbrev pub pendingSlot : Report
+pendingSlot = record {
+  request = 83 ∷ 77 ∷ 63 ∷ 75 ∷ 81 ∷ 80 ∷ 65 ∷ 126 ∷ 66 ∷ 49 ∷ 68 ∷ 57 ∷ 13 ∷ [];
+  sequence = [];
+  answer = 83 ∷ 77 ∷ 33 ∷ 75 ∷ 81 ∷ 48 ∷ 48 ∷ 80 ∷ 80 ∷ 69 ∷ 78 ∷ 68 ∷ 73 ∷ 78 ∷ 71 ∷ 126 ∷ 80 ∷ 65 ∷ 126 ∷ 80 ∷ 126 ∷ 72 ∷ 126 ∷ 80 ∷ 50 ∷ 48 ∷ 50 ∷ 54 ∷ 48 ∷ 49 ∷ 48 ∷ 49 ∷ 84 ∷ 48 ∷ 48 ∷ 48 ∷ 48 ∷ 48 ∷ 48 ∷ 90 ∷ 126 ∷ 72 ∷ 65 ∷ 65 ∷ 65 ∷ 65 ∷ 65 ∷ 65 ∷ 65 ∷ 65 ∷ 65 ∷ 65 ∷ 65 ∷ 65 ∷ 65 ∷ 65 ∷ 65 ∷ 65 ∷ 126 ∷ 67 ∷ 66 ∷ 51 ∷ 49 ∷ 13 ∷ [];
+}
+
+-- SM?KQPB~41D9: SM!KQ00PACTIVE~PB~P~HBBBBBBBBBBBBBBBB~P~H~N1~555C
+abbrev pub idleSlot : Report
+idleSlot = record {
+  request = 83 ∷ 77 ∷ 63 ∷ 75 ∷ 81 ∷ 80 ∷ 66 ∷ 126 ∷ 52 ∷ 49 ∷ 68 ∷ 57 ∷ 13 ∷ [];
+  sequence = [];
+  answer = 83 ∷ 77 ∷ 33 ∷ 75 ∷ 81 ∷ 48 ∷ 48 ∷ 80 ∷ 65 ∷ 67 ∷ 84 ∷ 73 ∷ 86 ∷ 69 ∷ 126 ∷ 80 ∷ 66 ∷ 126 ∷ 80 ∷ 126 ∷ 72 ∷ 66 ∷ 66 ∷ 66 ∷ 66 ∷ 66 ∷ 66 ∷ 66 ∷ 66 ∷ 66 ∷ 66 ∷ 66 ∷ 66 ∷ 66 ∷ 66 ∷ 66 ∷ 66 ∷ 126 ∷ 80 ∷ 126 ∷ 72 ∷ 126 ∷ 78 ∷ 49 ∷ 126 ∷ 53 ∷ 53 ∷ 53 ∷ 67 ∷ 13 ∷ [];
+}
+
+-- SM?GAN1~B688: SM!GA00PACT20130716T151031Z;BDT20130716T151031Z;CLMFFFFFFFF;CLU0;DKG04;IUT20380119T031407Z;KCV92E101;KEN255;KRN6;KSLB;KTC2;SBMFFFF;SGC0000758825;ULM999999999;VND0;~5EC3
+abbrev pub filledRegisterShown : Report
+filledRegisterShown = record {
+  request = 83 ∷ 77 ∷ 63 ∷ 71 ∷ 65 ∷ 78 ∷ 49 ∷ 126 ∷ 66 ∷ 54 ∷ 56 ∷ 56 ∷ 13 ∷ [];
+  sequence = [];
+  answer = 83 ∷ 77 ∷ 33 ∷ 71 ∷ 65 ∷ 48 ∷ 48 ∷ 80 ∷ 65 ∷ 67 ∷ 84 ∷ 50 ∷ 48 ∷ 49 ∷ 51 ∷ 48 ∷ 55 ∷ 49 ∷ 54 ∷ 84 ∷ 49 ∷ 53 ∷ 49 ∷ 48 ∷ 51 ∷ 49 ∷ 90 ∷ 59 ∷ 66 ∷ 68 ∷ 84 ∷ 50 ∷ 48 ∷ 49 ∷ 51 ∷ 48 ∷ 55 ∷ 49 ∷ 54 ∷ 84 ∷ 49 ∷ 53 ∷ 49 ∷ 48 ∷ 51 ∷ 49 ∷ 90 ∷ 59 ∷ 67 ∷ 76 ∷ 77 ∷ 70 ∷ 70 ∷ 70 ∷ 70 ∷ 70 ∷ 70 ∷ 70 ∷ 70 ∷ 59 ∷ 67 ∷ 76 ∷ 85 ∷ 48 ∷ 59 ∷ 68 ∷ 75 ∷ 71 ∷ 48 ∷ 52 ∷ 59 ∷ 73 ∷ 85 ∷ 84 ∷ 50 ∷ 48 ∷ 51 ∷ 56 ∷ 48 ∷ 49 ∷ 49 ∷ 57 ∷ 84 ∷ 48 ∷ 51 ∷ 49 ∷ 52 ∷ 48 ∷ 55 ∷ 90 ∷ 59 ∷ 75 ∷ 67 ∷ 86 ∷ 57 ∷ 50 ∷ 69 ∷ 49 ∷ 48 ∷ 49 ∷ 59 ∷ 75 ∷ 69 ∷ 78 ∷ 50 ∷ 53 ∷ 53 ∷ 59 ∷ 75 ∷ 82 ∷ 78 ∷ 54 ∷ 59 ∷ 75 ∷ 83 ∷ 76 ∷ 66 ∷ 59 ∷ 75 ∷ 84 ∷ 67 ∷ 50 ∷ 59 ∷ 83 ∷ 66 ∷ 77 ∷ 70 ∷ 70 ∷ 70 ∷ 70 ∷ 59 ∷ 83 ∷ 71 ∷ 67 ∷ 48 ∷ 48 ∷ 48 ∷ 48 ∷ 55 ∷ 53 ∷ 56 ∷ 56 ∷ 50 ∷ 53 ∷ 59 ∷ 85 ∷ 76 ∷ 77 ∷ 57 ∷ 57 ∷ 57 ∷ 57 ∷ 57 ∷ 57 ∷ 57 ∷ 57 ∷ 57 ∷ 59 ∷ 86 ∷ 78 ∷ 68 ∷ 48 ∷ 59 ∷ 126 ∷ 53 ∷ 69 ∷ 67 ∷ 51 ∷ 13 ∷ [];
+}
+
+-- SM?GAN12~8602: SM!GA22CA00
+abbrev pub emptyRegister : Report
+emptyRegister = record {
+  request = 83 ∷ 77 ∷ 63 ∷ 71 ∷ 65 ∷ 78 ∷ 49 ∷ 50 ∷ 126 ∷ 56 ∷ 54 ∷ 48 ∷ 50 ∷ 13 ∷ [];
+  sequence = [];
+  answer = 83 ∷ 77 ∷ 33 ∷ 71 ∷ 65 ∷ 50 ∷ 50 ∷ 67 ∷ 65 ∷ 48 ∷ 48 ∷ 13 ∷ [];
+}
+
+abbrev pub reports : List Report
+reports = rowByRow ∷ turned ∷ pendingSlot ∷ idleSlot ∷ filledRegisterShown ∷ emptyRegister ∷ []
+
+abbrev pub EachReported : List Report → Type 0
+EachReported [] = Unit {0}
+EachReported (r ∷ rs) = (answerOf (callOf reported (hand (r .request))) .response (r .sequence) ≡ r .answer) × EachReported rs
+
+pub each-reported : EachReported reports
+unfolding crcBit crcEight crcByte hexDigit hexValue fromDigits readHex4 sumDigits endsInSum isAlphanumeric areAll isIdentifier isUnpadded isNumber daysIn isDate isTime momentOf timestampOf isTimestamp typed valuesOf contentBytes endsInReturn isWhole isChecked textOf headerOf payloadOf ending framed answered headBytes headers commandOf responseBytes bodyOf field isRecord isAlgorithm table nameOf valueOf fits isCardFrom isMet isIncoming identityInForm keyInForm padded trimmed isVacant attributeOf isRegisterSound isSameKey freeRegister isZeroSlot isNamed isFilledSlot isSlotSound isSameSlot freeSlot filledSlot isOwned areSound isIdentityRight isLoadRequestRight isWellFormed areFieldsOf recordIn areCounts questions refused answers.answered listed answerOf isStored isEntryOf inRow filledRegister isOctets isUnder isKeyOf slotIn slotNamed isFilled slotNames stateText slotFields queryFields decDigits decimalBytes
+each-reported = (refl, (refl, (refl, (refl, (refl, (refl, tt))))))
+
+-- which key may vend: that of register 1, under B, where B is IDLE, and not while B is PENDING or LOADING; no register that is free, 0 or beyond the rows
+abbrev tablesWith : SlotRow → Tables
+tablesWith slot = record { slots = slot ∷ replicate 7 freeSlot; registers = filledRegister cardB ∷ replicate 31 freeRegister; «slot_count» = 2; «register_count» = 2 }
+
+abbrev slotB : SlotState → List ℕ → SlotRow
+slotB state tvp = filledSlot state b printB tvp
+
+pub vends : isUsable (tablesWith (slotB Idle [])) 1 ≡ true
+unfolding areAll isUnpadded isNumber daysIn isDate isTime momentOf timestampOf isTimestamp isAlphanumeric isIdentifier isAlgorithm table nameOf valueOf inRow isEntryOf isStored padded trimmed isVacant attributeOf isKeyOf isRegisterSound isSameKey freeRegister filledRegister isZeroSlot isNamed isFilledSlot isSlotSound isSameSlot freeSlot filledSlot isOwned areSound slotNamed areCounts isFilled isUsable
+vends = refl
+
+pub vends-not : (isUsable (tablesWith (slotB Pending clock)) 1 ≡ false) × (isUsable (tablesWith (slotB Loading [])) 1 ≡ false)
+    × (isUsable (tablesWith (slotB Idle [])) 0 ≡ false) × (isUsable (tablesWith (slotB Idle [])) 2 ≡ false) × (isUsable (tablesWith (slotB Idle [])) 3 ≡ false)
+unfolding areAll isUnpadded isNumber daysIn isDate isTime momentOf timestampOf isTimestamp isAlphanumeric isIdentifier isAlgorithm table nameOf valueOf inRow isEntryOf isStored padded trimmed isVacant attributeOf isKeyOf isRegisterSound isSameKey freeRegister filledRegister isZeroSlot isNamed isFilledSlot isSlotSound isSameSlot freeSlot filledSlot isOwned areSound slotNamed areCounts isFilled isUsable
+vends-not = (refl, refl, refl, refl, refl)

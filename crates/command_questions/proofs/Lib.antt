@@ -1,0 +1,5 @@
+pub mod Known
+pub mod Asking
+pub mod Flat
+pub mod RowLaws
+pub mod RecordLaws

@@ -1,0 +1,17 @@
+-- `load_decisions::decide_store` meets its contract: each return is the questions so far, in turn.
+use Rattle.command_questions.proofs.Asking.{asking}
+use borrow.Author.Needs.{needs}
+use Rattle.load_decisions.proofs.decide_store.Statement.{statement}
+use Rattle.load_decisions.proofs.decide_store.Tie as tie
+
+pub decide-store-spec : {M : Type 1} → statement M
+decide-store-spec =
+    tie.close
+    (tie.spec
+    (λ c κs. search needs)
+    (λ c. search asking)
+    (λ c κs. search needs)
+    (λ c. search needs)
+    (λ c. search needs)
+    (λ c. search asking)
+    (λ c. search asking))

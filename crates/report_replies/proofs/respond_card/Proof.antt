@@ -1,0 +1,18 @@
+-- `report_replies::respond_card` meets its contract: the card is what stands in the row before its zeros.
+use Rattle.session_replies.proofs.ReplyWords.{head-long, plainly-written}
+use Rattle.report_replies.proofs.ReportWords.{card-fits, card-written}
+use borrow.Author.Needs.{needs}
+use Rattle.report_replies.proofs.respond_card.Statement.{statement}
+use Rattle.report_replies.proofs.respond_card.Tie as tie
+
+pub respond-card-spec : {M : Type 1} → statement M
+respond-card-spec =
+    tie.close
+    (tie.spec
+    (λ c. search needs)
+    (λ c κs. search needs)
+    (λ c κs. search needs)
+    (λ c. search needs)
+    (λ c κs. (search head-long, search (card-fits, needs)))
+    (λ c. search needs)
+    (λ c. (search card-written, search needs)))

@@ -1,0 +1,13 @@
+-- `row_counts::are_counts` meets its contract, a law a return.
+use Rattle.row_counts.proofs.CountLaws.{counted}
+use Rattle.row_counts.proofs.are_counts.Statement.{statement}
+use Rattle.row_counts.proofs.are_counts.Tie as tie
+
+pub are-counts-spec : {M : Type 1} → statement M
+are-counts-spec =
+    tie.close
+    (tie.spec
+    (λ c. search counted)
+    (λ c. search counted)
+    (λ c. search counted)
+    (λ c. search counted))

@@ -1,0 +1,20 @@
+-- `row_decisions::ask_register` meets its contract, a law a return.
+use Rattle.command_questions.proofs.RowLaws.{register-unread, register-empty, register-filled}
+use Rattle.record_tests.proofs.WordLaws.{filled-least}
+use borrow.Author.Needs.{needs}
+use Rattle.row_decisions.proofs.ask_register.Statement.{statement}
+use Rattle.row_decisions.proofs.ask_register.Tie as tie
+
+pub ask-register-spec : {M : Type 1} → statement M
+ask-register-spec =
+    tie.close
+    (tie.spec
+    (λ c κs. search needs)
+    (λ c. search needs)
+    (λ c. search needs)
+    (λ c. search register-unread)
+    (λ c. search needs)
+    (λ c κs. search needs)
+    (λ c. search register-empty)
+    (λ c. search filled-least)
+    (λ c. search register-filled))

@@ -1,0 +1,16 @@
+-- `row_decisions::decide_clear` meets its contract: what was asked is a no or a place.
+use Rattle.command_questions.proofs.Asking.{done}
+use Rattle.command_questions.proofs.RowLaws.{clear-by}
+use borrow.Author.Needs.{needs}
+use Rattle.row_decisions.proofs.decide_clear.Statement.{statement}
+use Rattle.row_decisions.proofs.decide_clear.Tie as tie
+
+pub decide-clear-spec : {M : Type 1} → statement M
+decide-clear-spec =
+    tie.close
+    (tie.spec
+    (λ c κs. search needs)
+    (λ c. search needs)
+    (λ c. search needs)
+    (λ c. search (clear-by, done))
+    (λ c. search (clear-by, done)))

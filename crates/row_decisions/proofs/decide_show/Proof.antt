@@ -1,0 +1,16 @@
+-- `row_decisions::decide_show` meets its contract: what was asked is a no or a place.
+use Rattle.command_questions.proofs.Asking.{done}
+use Rattle.command_questions.proofs.RowLaws.{show-by}
+use borrow.Author.Needs.{needs}
+use Rattle.row_decisions.proofs.decide_show.Statement.{statement}
+use Rattle.row_decisions.proofs.decide_show.Tie as tie
+
+pub decide-show-spec : {M : Type 1} → statement M
+decide-show-spec =
+    tie.close
+    (tie.spec
+    (λ c κs. search needs)
+    (λ c. search needs)
+    (λ c. search needs)
+    (λ c. search (show-by, done))
+    (λ c. search (show-by, done)))

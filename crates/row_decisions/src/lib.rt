@@ -1,0 +1,139 @@
+// The commands that bring no record (document 01, "Questions in order", 8 and on): one function a command asks its questions in turn, and the first no decides.
+use cards::Found;
+use command_questions::Asked;
+use engine::Decision;
+use engine::Refusal;
+use payloads::Count;
+use rows::Place;
+use rows::RegisterRow;
+use rows::SlotRow;
+ghost use mathlib.Core.Path.{_≡_};
+ghost use Prim.Native.Nat.{_≤_};
+ghost use lib.ListN.{take};
+ghost use Rattle.fields.specs.Values.{valuesOf};
+ghost use Rattle.commands.specs.declared.Command.the-variants.{RS, KF, KX, KD, GA, GL, KQ};
+ghost use Rattle.engine.specs.Questions.{Call, firstNo};
+ghost use Rattle.engine.specs.Decisions.{decided, decisionFor};
+ghost use Rattle.command_questions.specs.CommandQuestions.{plainQuestions, slotAsked, registerAsked};
+
+// GL?RS and SM?GL: what is to be done, where there is no field.
+fn decide_plain(payload: &[u8], done: Decision) -> Decision
+    ensures { λ d. ⌜ d ≡ decided (firstNo (plainQuestions (valuesOf (now (payload .entry))))) done ⌝ }
+{
+    if !payloads::has_no_field(payload) {
+        return Decision::Refuse(Refusal::BadFields);
+    }
+    done
+}
+
+// GL?RS.
+pub fn decide_reset(payload: &[u8]) -> Decision
+    ensures { λ d. ⌜ ((c : Call) → d ≡ decisionFor c RS (valuesOf (now (payload .entry)))) ⌝ }
+{
+    decide_plain(payload, Decision::Reset)
+}
+
+// SM?GL.
+pub fn decide_enumerate(payload: &[u8]) -> Decision
+    ensures { λ d. ⌜ ((c : Call) → d ≡ decisionFor c GL (valuesOf (now (payload .entry)))) ⌝ }
+{
+    decide_plain(payload, Decision::Enumerate)
+}
+
+// The slot that the only field names.
+fn ask_slot(slots: [SlotRow; 8], n: usize, payload: &[u8]) -> Asked
+    requires { ⌜ n ≤ 8 ⌝ }
+    ensures { λ a. ⌜ a ≡ slotAsked (take n slots) (valuesOf (now (payload .entry))) ⌝ }
+{
+    let f = payloads::one_text(payload);
+    let Found::At { start, end } = f else {
+        return Asked::No(Refusal::BadFields);
+    };
+    let place = slot_tables::slot_place(slots, n, &payload[start..end]);
+    let Place::At(k) = place else {
+        return Asked::No(Refusal::UnknownSlot);
+    };
+    Asked::At(k)
+}
+
+// SM?KF: the slot has a session.
+pub fn decide_finish(slots: [SlotRow; 8], n: usize, payload: &[u8]) -> Decision
+    requires { ⌜ n ≤ 8 ⌝ }
+    ensures { λ d. ⌜ ((c : Call) → c .slots ≡ take n slots → d ≡ decisionFor c KF (valuesOf (now (payload .entry)))) ⌝ }
+{
+    let asked = ask_slot(slots, n, payload);
+    match asked {
+        Asked::No(r) => Decision::Refuse(r),
+        Asked::At(k) => {
+            let row = slots[k];
+            if !record_tests::has_session(row) {
+                return Decision::Refuse(Refusal::WrongState);
+            }
+            Decision::Finish(k)
+        }
+    }
+}
+
+// SM?KX.
+pub fn decide_delete(slots: [SlotRow; 8], n: usize, payload: &[u8]) -> Decision
+    requires { ⌜ n ≤ 8 ⌝ }
+    ensures { λ d. ⌜ ((c : Call) → c .slots ≡ take n slots → d ≡ decisionFor c KX (valuesOf (now (payload .entry)))) ⌝ }
+{
+    let asked = ask_slot(slots, n, payload);
+    match asked {
+        Asked::No(r) => Decision::Refuse(r),
+        Asked::At(k) => Decision::Delete(k),
+    }
+}
+
+// SM?KQ.
+pub fn decide_query(slots: [SlotRow; 8], n: usize, payload: &[u8]) -> Decision
+    requires { ⌜ n ≤ 8 ⌝ }
+    ensures { λ d. ⌜ ((c : Call) → c .slots ≡ take n slots → d ≡ decisionFor c KQ (valuesOf (now (payload .entry)))) ⌝ }
+{
+    let asked = ask_slot(slots, n, payload);
+    match asked {
+        Asked::No(r) => Decision::Refuse(r),
+        Asked::At(k) => Decision::Query(k),
+    }
+}
+
+// The register that the only field numbers, counted from 1.
+fn ask_register(registers: [RegisterRow; 32], m: usize, payload: &[u8]) -> Asked
+    requires { ⌜ m ≤ 32 ⌝ }
+    ensures { λ a. ⌜ a ≡ registerAsked (take m registers) (valuesOf (now (payload .entry))) ⌝ }
+{
+    let f = payloads::one_number(payload);
+    let Count::Is(v) = f else {
+        return Asked::No(Refusal::BadFields);
+    };
+    let n = v as usize;
+    if !record_tests::is_filled(registers, m, n) {
+        return Asked::No(Refusal::EmptyRegister);
+    }
+    Asked::At(n - 1)
+}
+
+// SM?KD.
+pub fn decide_clear(registers: [RegisterRow; 32], m: usize, payload: &[u8]) -> Decision
+    requires { ⌜ m ≤ 32 ⌝ }
+    ensures { λ d. ⌜ ((c : Call) → c .registers ≡ take m registers → d ≡ decisionFor c KD (valuesOf (now (payload .entry)))) ⌝ }
+{
+    let asked = ask_register(registers, m, payload);
+    match asked {
+        Asked::No(r) => Decision::Refuse(r),
+        Asked::At(k) => Decision::Clear(k),
+    }
+}
+
+// SM?GA.
+pub fn decide_show(registers: [RegisterRow; 32], m: usize, payload: &[u8]) -> Decision
+    requires { ⌜ m ≤ 32 ⌝ }
+    ensures { λ d. ⌜ ((c : Call) → c .registers ≡ take m registers → d ≡ decisionFor c GA (valuesOf (now (payload .entry)))) ⌝ }
+{
+    let asked = ask_register(registers, m, payload);
+    match asked {
+        Asked::No(r) => Decision::Refuse(r),
+        Asked::At(k) => Decision::Show(k),
+    }
+}

@@ -1,0 +1,92 @@
+// SM?KC and SM?KR, which open a session (document 01, "Questions in order", 8 and on): one function a command asks its questions in turn, and the first no decides.
+use cards::Found;
+use engine::Decision;
+use engine::Refusal;
+use rows::Place;
+use rows::SlotRow;
+use rows::SlotState;
+use rows::Supplement;
+ghost use mathlib.Core.Path.{_≡_};
+ghost use Prim.Native.Nat.{_≤_};
+ghost use lib.ListN.{take};
+ghost use Rattle.fields.specs.Values.{valuesOf};
+ghost use Rattle.commands.specs.declared.Command.the-variants.{KC, KR};
+ghost use Rattle.engine.specs.Questions.{Call, firstNo};
+ghost use Rattle.engine.specs.Decisions.{decided, decisionFor};
+ghost use Rattle.engine.specs.declared.Decision.the-variants.{Open};
+ghost use Rattle.command_questions.specs.CommandQuestions.{responseQuestions};
+
+// SM?KC.
+pub fn decide_pend(slots: [SlotRow; 8], n: usize, x: Supplement, payload: &[u8]) -> Decision
+    requires { ⌜ n ≤ 8 ⌝ }
+    ensures { λ d. ⌜ ((c : Call) → c .slots ≡ take n slots → c .supplement ≡ x → d ≡ decisionFor c KC (valuesOf (now (payload .entry)))) ⌝ }
+{
+    let f = payloads::one_text(payload);
+    let Found::At { start, end } = f else {
+        return Decision::Refuse(Refusal::BadFields);
+    };
+    let r = &payload[start..end];
+    if !key_records::parses_public_key(r) {
+        return Decision::Refuse(Refusal::BadRecord);
+    }
+    if !key_records::public_key_in_form(r) {
+        return Decision::Refuse(Refusal::BadForm);
+    }
+    if !record_tests::is_not_expired(r, &x.clock) {
+        return Decision::Refuse(Refusal::Expired);
+    }
+    let place = record_tests::session_place(slots, n, r);
+    let Place::At(k) = place else {
+        return Decision::Refuse(Refusal::NoFreeSlot);
+    };
+    if !record_tests::has_passed(x) {
+        return Decision::Refuse(Refusal::CheckFailed);
+    }
+    Decision::Pend(k)
+}
+
+// SM?KR: question 15, of the slot in row k.
+fn decide_response(k: usize, row: SlotRow, x: Supplement, r: &[u8]) -> Decision
+    ensures { λ d. ⌜ d ≡ decided (firstNo (responseQuestions x (now (r .entry)) row)) (Open k) ⌝ }
+{
+    if !record_tests::is_own_module(r, x) {
+        return Decision::Refuse(Refusal::OtherModule);
+    }
+    if !record_tests::has_fingerprint(r, row) {
+        return Decision::Refuse(Refusal::OtherFingerprint);
+    }
+    if !record_tests::has_tvp(r, row) {
+        return Decision::Refuse(Refusal::OtherTvp);
+    }
+    if !record_tests::has_tag(r, x) {
+        return Decision::Refuse(Refusal::OtherTag);
+    }
+    Decision::Open(k)
+}
+
+// SM?KR.
+pub fn decide_open(slots: [SlotRow; 8], n: usize, x: Supplement, payload: &[u8]) -> Decision
+    requires { ⌜ n ≤ 8 ⌝ }
+    ensures { λ d. ⌜ ((c : Call) → c .slots ≡ take n slots → c .supplement ≡ x → d ≡ decisionFor c KR (valuesOf (now (payload .entry)))) ⌝ }
+{
+    let f = payloads::one_text(payload);
+    let Found::At { start, end } = f else {
+        return Decision::Refuse(Refusal::BadFields);
+    };
+    let r = &payload[start..end];
+    if !key_records::parses_response(r) {
+        return Decision::Refuse(Refusal::BadRecord);
+    }
+    if !key_records::response_in_form(r) {
+        return Decision::Refuse(Refusal::BadForm);
+    }
+    let place = record_tests::known_place(slots, n, r);
+    let Place::At(k) = place else {
+        return Decision::Refuse(Refusal::UnknownSlot);
+    };
+    let row = slots[k];
+    if !slot_tests::has_state(row, SlotState::Pending) {
+        return Decision::Refuse(Refusal::WrongState);
+    }
+    decide_response(k, row, x, r)
+}

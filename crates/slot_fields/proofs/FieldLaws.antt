@@ -1,0 +1,73 @@
+-- What is told of a slot, field by field.
+use mathlib.Core.Path.{_≡_, ap}
+use mathlib.Core.Bool.{Bool, true, false, cond, not}
+use mathlib.Core.List.{List, [], _∷_}
+use Prim.Native.Nat.{ℕ, _+_, _≤_}
+use native.Mathlib.Omega.{arith}
+use lib.ListN.{length}
+use borrow.Author.Tests.{not-true, not-false}
+use Rattle.octets.specs.Wrote.{Wrote}
+use Rattle.octets.proofs.Writes.{then, none}
+use Rattle.fields.specs.Values.{string, octets, fieldBytes, payloadBytes}
+use Rattle.rows.specs.Lists.{trimmed}
+use Rattle.rows.specs.Slots.{hasState, kmcidOf}
+use Rattle.rows.specs.Reports.{stateText, slotFields}
+use Rattle.rows.specs.declared.SlotRow.{SlotRow}
+use Rattle.rows.specs.declared.SlotState.the-variants.{Pending, Loading}
+use Rattle.rows.proofs.ListLaws.{trimmed-short}
+use Rattle.rows.proofs.FieldLoops.{payload-append}
+
+-- put_kmcid: of a space of 40 bytes
+module _ (k s : List ℕ) (p : s ≡ trimmed k) (a : ℕ) where
+  pub kmcid-told : (d f : List ℕ) (b : ℕ) → Wrote d a (fieldBytes (string s)) f b → Wrote d a (fieldBytes (string (trimmed k))) f b
+  kmcid-told d f b w = rw (← p) w
+
+  module _ (z : length k ≡ 40) where
+    pub kmcid-room : (n : ℕ) → a + 42 ≤ n → a + length s + 2 ≤ n
+    kmcid-room n h = omega (arith, ap length p, trimmed-short 40 k z)
+
+    pub kmcid-end : (b : ℕ) → b ≡ a + length s + 2 → b ≤ a + 42
+    kmcid-end b h = omega (arith, ap length p, trimmed-short 40 k z)
+
+-- put_state
+module _ (r : SlotRow) (p : Bool) (e : p ≡ hasState Pending r) (d f : List ℕ) (a b : ℕ) where
+  pub pending-told : p ≡ true → Wrote d a (fieldBytes (string (80 ∷ 69 ∷ 78 ∷ 68 ∷ 73 ∷ 78 ∷ 71 ∷ []))) f b → Wrote d a (fieldBytes (string (stateText r))) f b
+  unfolding stateText
+  pending-told o w = rw (← e, o) w
+
+  module _ (o : p ≡ false) (l : Bool) (q : l ≡ hasState Loading r) where
+    pub loading-told : l ≡ true → Wrote d a (fieldBytes (string (76 ∷ 79 ∷ 65 ∷ 68 ∷ 73 ∷ 78 ∷ 71 ∷ []))) f b → Wrote d a (fieldBytes (string (stateText r))) f b
+    unfolding stateText
+    loading-told h w = rw (← e, o, ← q, h) w
+
+    pub active-told : l ≡ false → Wrote d a (fieldBytes (string (65 ∷ 67 ∷ 84 ∷ 73 ∷ 86 ∷ 69 ∷ []))) f b → Wrote d a (fieldBytes (string (stateText r))) f b
+    unfolding stateText
+    active-told h w = rw (← e, o, ← q, h) w
+
+-- put_key
+module _ (held : Bool) (t p d f g : List ℕ) (a b c : ℕ) where
+  pub key-held : not held ≡ false → Wrote d a (fieldBytes (string t)) f b → Wrote f b (fieldBytes (octets p)) g c
+      → Wrote d a (payloadBytes (string (cond held t []) ∷ octets (cond held p []) ∷ [])) g c
+  key-held o v w = rw (not-false held o) (then v (then w (none g c)))
+
+  pub key-absent : not held ≡ true → Wrote d a (fieldBytes (string [])) f b → Wrote f b (fieldBytes (octets [])) g c
+      → Wrote d a (payloadBytes (string (cond held t []) ∷ octets (cond held p []) ∷ [])) g c
+  key-absent o v w = rw (not-true held o) (then v (then w (none g c)))
+
+-- put_slot
+pub sixteen : (l : List ℕ) → length l ≡ 16 → length l ≤ 16
+sixteen l e = omega arith
+
+module _ (r : SlotRow) (p : Bool) (e : p ≡ hasState Pending r) (d f g h k : List ℕ) (at a b c x : ℕ) where
+  pub slot-told : Wrote d at (fieldBytes (string (stateText r))) f a → Wrote f a (fieldBytes (string (kmcidOf r))) g b
+      → Wrote g b (payloadBytes (string (cond (not p) [] []) ∷ octets (cond (not p) (r .fingerprint) []) ∷ [])) h c
+      → Wrote h c (payloadBytes (string (cond p (r .tvp) []) ∷ octets (cond p (r .fingerprint) []) ∷ [])) k x
+      → Wrote d at (payloadBytes (slotFields r)) k x
+  unfolding slotFields
+  slot-told u v w y = rw (← e) (then u (then v (go p w y)))
+    where
+      go : (q : Bool) → Wrote g b (payloadBytes (string (cond (not q) [] []) ∷ octets (cond (not q) (r .fingerprint) []) ∷ [])) h c
+          → Wrote h c (payloadBytes (string (cond q (r .tvp) []) ∷ octets (cond q (r .fingerprint) []) ∷ [])) k x
+          → Wrote g b (payloadBytes (string [] ∷ octets (cond q [] (r .fingerprint)) ∷ string (cond q (r .tvp) []) ∷ octets (cond q (r .fingerprint) []) ∷ [])) k x
+      go true s t = rw (payload-append (string [] ∷ octets [] ∷ []) (string (r .tvp) ∷ octets (r .fingerprint) ∷ [])) (then s t)
+      go false s t = rw (payload-append (string [] ∷ octets (r .fingerprint) ∷ []) (string [] ∷ octets [] ∷ [])) (then s t)

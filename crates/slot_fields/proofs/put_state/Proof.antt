@@ -1,0 +1,24 @@
+-- `slot_fields::put_state` meets its contract, a law a return.
+use Rattle.slot_fields.proofs.FieldLaws.{pending-told, loading-told, active-told}
+use borrow.Author.Needs.{needs}
+use Rattle.slot_fields.proofs.put_state.Statement.{statement}
+use Rattle.slot_fields.proofs.put_state.Tie as tie
+
+pub put-state-spec : {M : Type 1} → statement M
+put-state-spec =
+    tie.close
+    (tie.spec
+    (λ c κs. search needs)
+    (λ c. search needs)
+    (λ c κs. search needs)
+    (λ c. search needs)
+    (λ c. (search pending-told, search needs))
+    (λ c κs. search needs)
+    (λ c. search needs)
+    (λ c κs. search needs)
+    (λ c. search needs)
+    (λ c. (search loading-told, search needs))
+    (λ c. search needs)
+    (λ c κs. search needs)
+    (λ c. search needs)
+    (λ c. (search active-told, search needs)))

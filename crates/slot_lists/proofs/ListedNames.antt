@@ -1,0 +1,37 @@
+-- What is told of one slot, and of the slots one after the other.
+use mathlib.Core.Path.{_≡_, refl, ap}
+use mathlib.Core.Bool.{Bool, true, false, cond, not}
+use mathlib.Core.List.{List, [], _∷_, _++_, map}
+use Prim.Native.Nat.{ℕ, _+_}
+use Rattle.octets.specs.Wrote.{Wrote}
+use Rattle.octets.proofs.Writes.{then, none}
+use Rattle.fields.specs.Values.{Value, string, fieldBytes, payloadBytes}
+use Rattle.rows.specs.Slots.{hasState, kmcidOf}
+use Rattle.rows.specs.Reports.{slotNames, nameFields}
+use Rattle.rows.specs.declared.SlotRow.{SlotRow}
+use Rattle.rows.specs.declared.SlotState.the-variants.{Free}
+use Rattle.rows.proofs.ReportLaws.{notFree}
+use Rattle.rows.proofs.FieldLoops.{told}
+
+-- put_name
+module _ (r : SlotRow) (t : Bool) (e : t ≡ hasState Free r) where
+  pub free-untold : (d : List ℕ) (a : ℕ) → t ≡ true → Wrote d a (payloadBytes (nameFields (slotNames (r ∷ [])))) d a
+  unfolding slotNames
+  free-untold d a o = rw (← e, o) (none d a)
+
+  pub name-told : (d f : List ℕ) (a b : ℕ) → Wrote d a (fieldBytes (string (kmcidOf r))) f b → t ≡ false → Wrote d a (payloadBytes (nameFields (slotNames (r ∷ [])))) f b
+  unfolding slotNames
+  name-told d f a b w o = rw (← e, o) (then w (none f b))
+
+-- put_names
+abbrev pub oneName : ℕ → SlotRow → List Value
+oneName i r = nameFields (slotNames (r ∷ []))
+
+pub names-told : (i : ℕ) (rows : List SlotRow) → told oneName i rows ≡ nameFields (slotNames rows)
+unfolding slotNames
+names-told i [] = refl
+names-told i (x ∷ xs) = go (hasState Free x) (names-told (i + 1) xs)
+  where
+    go : (t : Bool) → told oneName (i + 1) xs ≡ nameFields (map kmcidOf (notFree xs)) → nameFields (map kmcidOf (cond (not t) (x ∷ []) [])) ++ told oneName (i + 1) xs ≡ nameFields (map kmcidOf (cond (not t) (x ∷ notFree xs) (notFree xs)))
+    go true q = q
+    go false q = ap (λ (l : List Value). string (kmcidOf x) ∷ l) q

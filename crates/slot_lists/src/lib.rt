@@ -1,0 +1,49 @@
+// The response of SM?GL (001 clause 6.3.1): the identifiers of the slots that are not free, row by row.
+use rows::SlotRow;
+use rows::SlotState;
+ghost use mathlib.Core.List.{[], _∷_};
+ghost use Prim.Native.Nat.{_+_, _≤_};
+ghost use lib.ListN.{length, take};
+ghost use Rattle.octets.specs.Wrote.{Wrote};
+ghost use Rattle.fields.specs.Values.{payloadBytes};
+ghost use Rattle.responses.specs.Responses.{responseBytes};
+ghost use Rattle.rows.specs.Reports.{slotNames, nameFields};
+
+// Writes the identifier of a slot, of a free one nothing, and answers the place after it.
+fn put_name(dst: &mut [u8], at: usize, row: SlotRow) -> usize
+    requires { ⌜ at + 42 ≤ length (now dst) ⌝ }
+    ensures { λ r. ⌜ Wrote (now (dst .entry)) at (payloadBytes (nameFields (slotNames (row ∷ [])))) (now (dst .exit)) r ⌝ }
+    ensures short { λ r. ⌜ r ≤ at + 42 ⌝ }
+{
+    if slot_tests::has_state(row, SlotState::Free) {
+        return at;
+    }
+    slot_fields::put_kmcid(dst, at, row)
+}
+
+// Writes the identifiers of those of the first n rows that are not free, and answers the place after them.
+pub fn put_names(dst: &mut [u8], at: usize, slots: [SlotRow; 8], n: usize) -> usize
+    requires { ⌜ (n ≤ 8) × (at + 336 ≤ length (now dst)) ⌝ }
+    ensures { λ r. ⌜ Wrote (now (dst .entry)) at (payloadBytes (nameFields (slotNames (take n slots)))) (now (dst .exit)) r ⌝ }
+    ensures short { λ r. ⌜ r ≤ at + 336 ⌝ }
+{
+    let mut end = at;
+    let mut i = 0;
+    while i < n {
+        let row = slots[i];
+        end = put_name(dst, end, row);
+        i += 1;
+    }
+    end
+}
+
+// Writes the response, and answers its length.
+pub fn reply_names(dst: &mut [u8], header: &[u8], slots: [SlotRow; 8], n: usize) -> usize
+    requires { ⌜ (n ≤ 8) × (3 ≤ length (now header)) × (length (now header) + 343 ≤ length (now dst)) ⌝ }
+    ensures { λ r. ⌜ Wrote (now (dst .entry)) 0 (responseBytes (now (header .entry)) (48 ∷ 48 ∷ []) (nameFields (slotNames (take n slots)))) (now (dst .exit)) r ⌝ }
+    ensures fits { λ r. ⌜ r ≤ length (now (dst .entry)) ⌝ }
+{
+    let a = frames::put_head(dst, header, b"00");
+    let b = put_names(dst, a, slots, n);
+    frames::close_message(dst, b)
+}

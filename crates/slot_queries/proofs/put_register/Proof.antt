@@ -1,0 +1,15 @@
+-- `slot_queries::put_register` meets its contract, a law a return.
+use Rattle.slot_queries.proofs.QueryLaws.{other-untold, number-told}
+use borrow.Author.Needs.{needs}
+use Rattle.slot_queries.proofs.put_register.Statement.{statement}
+use Rattle.slot_queries.proofs.put_register.Tie as tie
+
+pub put-register-spec : {M : Type 1} → statement M
+put-register-spec =
+    tie.close
+    (tie.spec
+    (λ c κs. search needs)
+    (λ c. (search other-untold, search needs))
+    (λ c κs. search needs)
+    (λ c. search needs)
+    (λ c. (search number-told, search needs)))
