@@ -5,3 +5,4 @@ pub mod RowsAfter
 pub mod Fits
 pub mod HandleLaws
 pub mod EntryLists
+pub mod EntryReads
