@@ -28,16 +28,16 @@ pub fn decide_command(
     ensures { λ d. ⌜ ((k : Call) → k .slots ≡ take n slots → k .registers ≡ take m registers → k .supplement ≡ x → d ≡ decisionFor k c (valuesOf (now (payload .entry)))) ⌝ }
 {
     match c {
-        Command::RS => row_decisions::decide_reset(payload),
+        Command::RS => slot_decisions::decide_reset(payload),
         Command::KC => session_decisions::decide_pend(slots, n, x, payload),
         Command::KR => session_decisions::decide_open(slots, n, x, payload),
         Command::KL => load_decisions::decide_load(slots, n, registers, m, x, payload),
-        Command::KF => row_decisions::decide_finish(slots, n, payload),
-        Command::KX => row_decisions::decide_delete(slots, n, payload),
-        Command::KD => row_decisions::decide_clear(registers, m, payload),
-        Command::GA => row_decisions::decide_show(registers, m, payload),
-        Command::GL => row_decisions::decide_enumerate(payload),
-        Command::KQ => row_decisions::decide_query(slots, n, payload),
+        Command::KF => slot_decisions::decide_finish(slots, n, payload),
+        Command::KX => slot_decisions::decide_delete(slots, n, payload),
+        Command::KD => register_decisions::decide_clear(registers, m, payload),
+        Command::GA => register_decisions::decide_show(registers, m, payload),
+        Command::GL => slot_decisions::decide_enumerate(payload),
+        Command::KQ => slot_decisions::decide_query(slots, n, payload),
         Command::Unknown => Decision::Refuse(Refusal::UnknownHeader),
     }
 }

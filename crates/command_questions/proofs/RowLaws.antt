@@ -1,4 +1,4 @@
--- The commands that bring no record: from what the code has read and found to the decision. c is any call over these rows, p the payload, l and n the places and the rows.
+-- The commands about slots and registers that bring no record: from what the code has read and found to the decision. c is any call over these rows, p the payload, l and n the places and the rows.
 use mathlib.Core.Path.{_≡_, refl, sym, _∙_}
 use mathlib.Core.Bool.{Bool, true, false, cond, not, _||_}
 use mathlib.Core.List.{List}

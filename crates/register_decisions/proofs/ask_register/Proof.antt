@@ -1,9 +1,9 @@
--- `row_decisions::ask_register` meets its contract, a law a return.
+-- `register_decisions::ask_register` meets its contract, a law a return.
 use Rattle.command_questions.proofs.RowLaws.{register-unread, register-empty, register-filled}
 use Rattle.record_tests.proofs.WordLaws.{filled-least}
 use borrow.Author.Needs.{needs}
-use Rattle.row_decisions.proofs.ask_register.Statement.{statement}
-use Rattle.row_decisions.proofs.ask_register.Tie as tie
+use Rattle.register_decisions.proofs.ask_register.Statement.{statement}
+use Rattle.register_decisions.proofs.ask_register.Tie as tie
 
 pub ask-register-spec : {M : Type 1} → statement M
 ask-register-spec =

@@ -1,9 +1,9 @@
--- `row_decisions::decide_finish` meets its contract: what was asked is a no or a place, and of the row there one question is left.
+-- `slot_decisions::decide_finish` meets its contract: what was asked is a no or a place, and of the row there one question is left.
 use Rattle.command_questions.proofs.Asking.{asking}
 use Rattle.command_questions.proofs.RowLaws.{slot-in, slot-fits, finish-refused, finish-by}
 use borrow.Author.Needs.{needs}
-use Rattle.row_decisions.proofs.decide_finish.Statement.{statement}
-use Rattle.row_decisions.proofs.decide_finish.Tie as tie
+use Rattle.slot_decisions.proofs.decide_finish.Statement.{statement}
+use Rattle.slot_decisions.proofs.decide_finish.Tie as tie
 
 pub decide-finish-spec : {M : Type 1} → statement M
 decide-finish-spec =

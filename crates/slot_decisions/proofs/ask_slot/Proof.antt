@@ -1,9 +1,9 @@
--- `row_decisions::ask_slot` meets its contract, a law a return.
+-- `slot_decisions::ask_slot` meets its contract, a law a return.
 use Rattle.cards.proofs.EntryLaws.{start-le, end-le}
 use Rattle.command_questions.proofs.RowLaws.{slot-unread, slot-unknown, slot-known}
 use borrow.Author.Needs.{needs}
-use Rattle.row_decisions.proofs.ask_slot.Statement.{statement}
-use Rattle.row_decisions.proofs.ask_slot.Tie as tie
+use Rattle.slot_decisions.proofs.ask_slot.Statement.{statement}
+use Rattle.slot_decisions.proofs.ask_slot.Tie as tie
 
 pub ask-slot-spec : {M : Type 1} → statement M
 ask-slot-spec =

@@ -1,8 +1,8 @@
--- `row_decisions::decide_enumerate` meets its contract.
+-- `slot_decisions::decide_enumerate` meets its contract.
 use Rattle.command_questions.proofs.RowLaws.{enumerate-by}
 use borrow.Author.Needs.{needs}
-use Rattle.row_decisions.proofs.decide_enumerate.Statement.{statement}
-use Rattle.row_decisions.proofs.decide_enumerate.Tie as tie
+use Rattle.slot_decisions.proofs.decide_enumerate.Statement.{statement}
+use Rattle.slot_decisions.proofs.decide_enumerate.Tie as tie
 
 pub decide-enumerate-spec : {M : Type 1} → statement M
 decide-enumerate-spec =

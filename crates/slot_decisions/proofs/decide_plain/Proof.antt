@@ -1,8 +1,8 @@
--- `row_decisions::decide_plain` meets its contract, a law a return.
+-- `slot_decisions::decide_plain` meets its contract, a law a return.
 use Rattle.command_questions.proofs.Asking.{asking}
 use borrow.Author.Needs.{needs}
-use Rattle.row_decisions.proofs.decide_plain.Statement.{statement}
-use Rattle.row_decisions.proofs.decide_plain.Tie as tie
+use Rattle.slot_decisions.proofs.decide_plain.Statement.{statement}
+use Rattle.slot_decisions.proofs.decide_plain.Tie as tie
 
 pub decide-plain-spec : {M : Type 1} → statement M
 decide-plain-spec =
