@@ -87,7 +87,7 @@ revisionIn card = orElse (valueOf KRN card) []
 unfoldable pub areCounts : ℕ → ℕ → Bool
 areCounts slots registers = leb 1 slots && (leb slots 8 && (leb 1 registers && leb registers 32))
 
--- register n, counted from 1; a free one past the rows
+-- register n, counted from 1; a free one past the rows. 0 is no register: `isFilled` says no of it
 abbrev pub registerNumbered : ℕ → List RegisterRow → RegisterRow
 registerNumbered n rows = getD rows (n - 1) freeRegister
 
