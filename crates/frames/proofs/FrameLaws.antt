@@ -1,7 +1,7 @@
 -- The cases of the definitions, each with what the code knows where it answers as premises.
-use mathlib.Core.Path.{_≡_, refl, sym, ap, _∙_}
-use mathlib.Core.Bool.{Bool, true, false, _&&_}
-use mathlib.Core.List.{List, [], _∷_, _++_}
+use mathlib.Core.Path.{_≡_, sym}
+use mathlib.Core.Bool.{Bool, false}
+use mathlib.Core.List.{List, []}
 use Prim.Native.Nat.{ℕ, _+_, _-_, _≤_, _<_}
 use native.Mathlib.Nat.{sub-zero, zero-add}
 use native.Mathlib.Omega.{arith}
@@ -9,13 +9,11 @@ use lib.Dec.{eqb}
 use lib.ListN.{length, take, drop, length-append, length-drop, drop-of-length-le}
 use lib.Seq.{take-take, take-all, length-take-le}
 use borrow.Author.Tests.{lt-leb, le-leb}
-use Rattle.octets.specs.Wrote.{Wrote}
 use Rattle.octets.specs.Strings.{isNot, run}
-use Rattle.octets.proofs.StringLaws.{rest, drop-take}
-use Rattle.octets.proofs.Writes.{then}
-use Rattle.checksum.specs.Checksum.{sumDigits, endsInSum}
+use Rattle.octets.proofs.StringLaws.{drop-take}
+use Rattle.checksum.specs.Checksum.{endsInSum}
 use Rattle.checksum.specs.declared.Kind.the-variants.{Arc}
-use Rattle.frames.specs.Frames.{endsInReturn, isWhole, isChecked, textOf, headerOf, payloadOf, ending, answered, headBytes}
+use Rattle.frames.specs.Frames.{endsInReturn, isWhole, isChecked, textOf, headerOf, payloadOf, answered}
 
 -- is_whole
 module _ (s : List ℕ) where
@@ -59,16 +57,7 @@ module _ (s : List ℕ) (n : ℕ) (p : n ≡ length s - 5) where
   unfolding payloadOf textOf
   payload-part = rw (← p) (sym (drop-take 5 n s))
 
--- put_head
+-- a response's header is as long as the request's
 pub answered-length : (h : List ℕ) → 3 ≤ length h → length (answered h) ≡ length h
 unfolding answered
 answered-length h l = simp (length-append, length-drop) (omega (arith, length-take-le 2 h (omega arith)))
-
-pub head-written : {d e f g k : List ℕ} {a b c r : ℕ} (h s : List ℕ) → Wrote d 0 (take 2 h) e a → Wrote e a (33 ∷ []) f b → Wrote f b (take (length h - 3) (drop 3 h)) g c → Wrote g c s k r → Wrote d 0 (headBytes h s) k r
-unfolding headBytes answered
-head-written h s u v w x = then (then u (then v (rw rest at w))) x
-
--- close_message
-pub message-closed : {d e f : List ℕ} {n a r : ℕ} → Wrote d n (sumDigits Arc (take (n - 0) (drop 0 d))) e a → Wrote e a (13 ∷ []) f r → Wrote d n (ending (take n d)) f r
-unfolding ending
-message-closed u w = then (rw sub-zero at u) w

@@ -1,11 +1,9 @@
-// Requests and responses (001 clauses 5.2 and 5.3; document 01, "Checksum and fields"): the frame, and the writer of a response's head and ending.
+// The frame of a message, read: its length, carriage return and checksum, its header and payload (001 clauses 5.2 and 5.3; document 01, "Checksum and fields").
 use checksum::Kind;
 ghost use mathlib.Core.Path.{_≡_};
-ghost use mathlib.Core.List.{[], _∷_, _++_};
-ghost use Prim.Native.Nat.{_+_, _-_, _≤_};
-ghost use lib.ListN.{length, take};
-ghost use Rattle.octets.specs.Wrote.{Wrote};
-ghost use Rattle.frames.specs.Frames.{isWhole, isChecked, headerOf, payloadOf, ending, headBytes};
+ghost use Prim.Native.Nat.{_-_};
+ghost use lib.ListN.{length};
+ghost use Rattle.frames.specs.Frames.{isWhole, isChecked, headerOf, payloadOf};
 
 // Whether length and the only carriage return, at the end, are right (question 5).
 pub fn is_whole(s: &[u8]) -> bool
@@ -58,26 +56,4 @@ pub fn payload<'a>(s: &'a [u8]) -> &'a [u8]
         return &s[0..0];
     }
     &s[5..n]
-}
-
-// Writes the head of a response from the start on: the header with ! for ?, and the status. Answers the place after it.
-pub fn put_head(dst: &mut [u8], header: &[u8], status: &[u8]) -> usize
-    requires { ⌜ (3 ≤ length (now header)) × (length (now header) + length (now status) ≤ length (now dst)) ⌝ }
-    ensures { λ r. ⌜ Wrote (now (dst .entry)) 0 (headBytes (now (header .entry)) (now (status .entry))) (now (dst .exit)) r ⌝ }
-    ensures short { λ r. ⌜ r ≡ length (now (header .entry)) + length (now (status .entry)) ⌝ }
-{
-    let a = octets::put(dst, 0, &header[0..2]);
-    let b = octets::put_byte(dst, a, 33);
-    let c = octets::put(dst, b, &header[3..]);
-    octets::put(dst, c, status)
-}
-
-// Ends the message of the first n bytes: checksum and carriage return. Answers the place after them.
-pub fn close_message(dst: &mut [u8], n: usize) -> usize
-    requires { ⌜ n + 5 ≤ length (now dst) ⌝ }
-    ensures { λ r. ⌜ Wrote (now (dst .entry)) n (ending (take n (now (dst .entry)))) (now (dst .exit)) r ⌝ }
-    ensures short { λ r. ⌜ r ≡ n + 5 ⌝ }
-{
-    let a = checksum::put_sum(Kind::Arc, dst, 0, n);
-    octets::put_byte(dst, a, 13)
 }

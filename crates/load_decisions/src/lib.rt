@@ -60,7 +60,7 @@ pub fn decide_load(
     if !key_records::parses_key(r) {
         return Decision::Refuse(Refusal::BadRecord);
     }
-    if !key_records::key_in_form(r) {
+    if !record_forms::key_in_form(r) {
         return Decision::Refuse(Refusal::BadForm);
     }
     let place = slot_tables::slot_place(slots, n, &payload[start..end]);

@@ -12,8 +12,8 @@ pub fn reply(dst: &mut [u8], header: &[u8], status: &[u8]) -> usize
     ensures { λ r. ⌜ Wrote (now (dst .entry)) 0 (responseBytes (now (header .entry)) (now (status .entry)) []) (now (dst .exit)) r ⌝ }
     ensures fits { λ r. ⌜ r ≤ length (now (dst .entry)) ⌝ }
 {
-    let end = frames::put_head(dst, header, status);
-    frames::close_message(dst, end)
+    let end = frame_writer::put_head(dst, header, status);
+    frame_writer::close_message(dst, end)
 }
 
 // Writes a response with a string, and answers its length.
@@ -22,9 +22,9 @@ pub fn reply_text(dst: &mut [u8], header: &[u8], status: &[u8], v: &[u8]) -> usi
     ensures { λ r. ⌜ Wrote (now (dst .entry)) 0 (responseBytes (now (header .entry)) (now (status .entry)) (string (now (v .entry)) ∷ [])) (now (dst .exit)) r ⌝ }
     ensures fits { λ r. ⌜ r ≤ length (now (dst .entry)) ⌝ }
 {
-    let a = frames::put_head(dst, header, status);
+    let a = frame_writer::put_head(dst, header, status);
     let b = field_writer::put_string(dst, a, v);
-    frames::close_message(dst, b)
+    frame_writer::close_message(dst, b)
 }
 
 // Writes a response with two strings, and answers its length.
@@ -33,10 +33,10 @@ pub fn reply_texts(dst: &mut [u8], header: &[u8], status: &[u8], v: &[u8], w: &[
     ensures { λ r. ⌜ Wrote (now (dst .entry)) 0 (responseBytes (now (header .entry)) (now (status .entry)) (string (now (v .entry)) ∷ string (now (w .entry)) ∷ [])) (now (dst .exit)) r ⌝ }
     ensures fits { λ r. ⌜ r ≤ length (now (dst .entry)) ⌝ }
 {
-    let a = frames::put_head(dst, header, status);
+    let a = frame_writer::put_head(dst, header, status);
     let first = field_writer::put_string(dst, a, v);
     let second = field_writer::put_string(dst, first, w);
-    frames::close_message(dst, second)
+    frame_writer::close_message(dst, second)
 }
 
 // Writes a response with a number and a string, and answers its length.
@@ -45,8 +45,8 @@ pub fn reply_number_text(dst: &mut [u8], header: &[u8], status: &[u8], n: u32, w
     ensures { λ r. ⌜ Wrote (now (dst .entry)) 0 (responseBytes (now (header .entry)) (now (status .entry)) (number n ∷ string (now (w .entry)) ∷ [])) (now (dst .exit)) r ⌝ }
     ensures fits { λ r. ⌜ r ≤ length (now (dst .entry)) ⌝ }
 {
-    let a = frames::put_head(dst, header, status);
+    let a = frame_writer::put_head(dst, header, status);
     let b = field_writer::put_number(dst, a, n);
     let c = field_writer::put_string(dst, b, w);
-    frames::close_message(dst, c)
+    frame_writer::close_message(dst, c)
 }

@@ -85,7 +85,7 @@ fn hand_in_text(t: Tables, text: &[u8]) -> Tables {
     }
     octets::put(&mut request, 0, text);
     let n = text.len();
-    frames::close_message(&mut request, n);
+    frame_writer::close_message(&mut request, n);
     hand_in_front(t, &request, n + 5)
 }
 

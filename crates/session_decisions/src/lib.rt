@@ -29,7 +29,7 @@ pub fn decide_pend(slots: [SlotRow; 8], n: usize, x: Supplement, payload: &[u8])
     if !key_records::parses_public_key(r) {
         return Decision::Refuse(Refusal::BadRecord);
     }
-    if !key_records::public_key_in_form(r) {
+    if !record_forms::public_key_in_form(r) {
         return Decision::Refuse(Refusal::BadForm);
     }
     if !record_tests::is_not_expired(r, &x.clock) {
@@ -77,7 +77,7 @@ pub fn decide_open(slots: [SlotRow; 8], n: usize, x: Supplement, payload: &[u8])
     if !key_records::parses_response(r) {
         return Decision::Refuse(Refusal::BadRecord);
     }
-    if !key_records::response_in_form(r) {
+    if !record_forms::response_in_form(r) {
         return Decision::Refuse(Refusal::BadForm);
     }
     let place = record_tests::known_place(slots, n, r);

@@ -43,7 +43,7 @@ pub fn reply_names(dst: &mut [u8], header: &[u8], slots: [SlotRow; 8], n: usize)
     ensures { λ r. ⌜ Wrote (now (dst .entry)) 0 (responseBytes (now (header .entry)) (48 ∷ 48 ∷ []) (nameFields (slotNames (take n slots)))) (now (dst .exit)) r ⌝ }
     ensures fits { λ r. ⌜ r ≤ length (now (dst .entry)) ⌝ }
 {
-    let a = frames::put_head(dst, header, b"00");
+    let a = frame_writer::put_head(dst, header, b"00");
     let b = put_names(dst, a, slots, n);
-    frames::close_message(dst, b)
+    frame_writer::close_message(dst, b)
 }

@@ -58,8 +58,8 @@ pub fn reply_query(
     ensures fits { λ r. ⌜ r ≤ length (now (dst .entry)) ⌝ }
 {
     let kmcid = row.kmcid;
-    let a = frames::put_head(dst, header, b"00");
+    let a = frame_writer::put_head(dst, header, b"00");
     let b = slot_fields::put_slot(dst, a, row);
     let c = put_registers(dst, b, registers, m, slot_tests::trimmed(&kmcid));
-    frames::close_message(dst, c)
+    frame_writer::close_message(dst, c)
 }

@@ -125,19 +125,19 @@ fn show_records(kind: &[u8], s: &[u8]) -> bool {
     if octets::same_bytes(kind, b"pubkey") {
         show_record(
             key_records::parses_public_key(s),
-            key_records::public_key_in_form(s),
+            record_forms::public_key_in_form(s),
         );
         return true;
     }
     if octets::same_bytes(kind, b"vkloadresp") {
         show_record(
             key_records::parses_response(s),
-            key_records::response_in_form(s),
+            record_forms::response_in_form(s),
         );
         return true;
     }
     if octets::same_bytes(kind, b"key") {
-        show_record(key_records::parses_key(s), key_records::key_in_form(s));
+        show_record(key_records::parses_key(s), record_forms::key_in_form(s));
         return true;
     }
     if octets::same_bytes(kind, b"card") {
@@ -252,7 +252,7 @@ fn show_closed(s: &[u8]) {
     }
     let mut m = [0u8; 1024];
     let n = octets::put(&mut m, 0, s);
-    let e = frames::close_message(&mut m, n);
+    let e = frame_writer::close_message(&mut m, n);
     say(b"  ");
     say(&m[0..e - 1]);
     say(b"\n");

@@ -1,9 +1,9 @@
--- `key_records::response_in_form` meets its contract: a chain of four tests.
+-- `record_forms::response_in_form` meets its contract: a chain of four tests.
 use Rattle.key_records.specs.KeyRecords.{responseInForm}
 use Rattle.identities.proofs.Chain.{chain}
 use borrow.Author.Needs.{needs}
-use Rattle.key_records.proofs.response_in_form.Statement.{statement}
-use Rattle.key_records.proofs.response_in_form.Tie as tie
+use Rattle.record_forms.proofs.response_in_form.Statement.{statement}
+use Rattle.record_forms.proofs.response_in_form.Tie as tie
 
 returns : tie.Need-returns
 unfolding responseInForm

@@ -1,8 +1,8 @@
--- `key_records::has_identity_in_form` meets its contract: the identity is the part.
+-- `record_forms::has_identity_in_form` meets its contract: the identity is the part.
 use Rattle.identities.proofs.Chain.{identity-of}
 use borrow.Author.Needs.{needs}
-use Rattle.key_records.proofs.has_identity_in_form.Statement.{statement}
-use Rattle.key_records.proofs.has_identity_in_form.Tie as tie
+use Rattle.record_forms.proofs.has_identity_in_form.Statement.{statement}
+use Rattle.record_forms.proofs.has_identity_in_form.Tie as tie
 
 pub has-identity-in-form-spec : {M : Type 1} → statement M
 has-identity-in-form-spec =

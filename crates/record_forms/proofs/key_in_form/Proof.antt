@@ -1,9 +1,9 @@
--- `key_records::key_in_form` meets its contract: a chain of three tests.
+-- `record_forms::key_in_form` meets its contract: a chain of three tests.
 use Rattle.key_records.specs.KeyRecords.{keyInForm}
 use Rattle.identities.proofs.Chain.{chain}
 use borrow.Author.Needs.{needs}
-use Rattle.key_records.proofs.key_in_form.Statement.{statement}
-use Rattle.key_records.proofs.key_in_form.Tie as tie
+use Rattle.record_forms.proofs.key_in_form.Statement.{statement}
+use Rattle.record_forms.proofs.key_in_form.Tie as tie
 
 returns : tie.Need-returns
 unfolding keyInForm

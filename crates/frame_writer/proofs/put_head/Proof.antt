@@ -1,8 +1,8 @@
--- `frames::put_head` meets its contract: the header up to its third byte, !, the rest of it, the status.
-use Rattle.frames.proofs.FrameLaws.{head-written}
+-- `frame_writer::put_head` meets its contract: the header up to its third byte, !, the rest of it, the status.
+use Rattle.frame_writer.proofs.WriteLaws.{head-written}
 use borrow.Author.Needs.{needs}
-use Rattle.frames.proofs.put_head.Statement.{statement}
-use Rattle.frames.proofs.put_head.Tie as tie
+use Rattle.frame_writer.proofs.put_head.Statement.{statement}
+use Rattle.frame_writer.proofs.put_head.Tie as tie
 
 pub put-head-spec : {M : Type 1} → statement M
 put-head-spec =

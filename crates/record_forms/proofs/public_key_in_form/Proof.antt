@@ -1,9 +1,9 @@
--- `key_records::public_key_in_form` meets its contract: a chain of five tests.
+-- `record_forms::public_key_in_form` meets its contract: a chain of five tests.
 use Rattle.key_records.specs.KeyRecords.{publicKeyInForm}
 use Rattle.identities.proofs.Chain.{chain}
 use borrow.Author.Needs.{needs}
-use Rattle.key_records.proofs.public_key_in_form.Statement.{statement}
-use Rattle.key_records.proofs.public_key_in_form.Tie as tie
+use Rattle.record_forms.proofs.public_key_in_form.Statement.{statement}
+use Rattle.record_forms.proofs.public_key_in_form.Tie as tie
 
 returns : tie.Need-returns
 unfolding publicKeyInForm

@@ -1,0 +1,14 @@
+-- `frame_writer::close_message` meets its contract: checksum, then carriage return.
+use Rattle.frame_writer.proofs.WriteLaws.{message-closed}
+use borrow.Author.Needs.{needs}
+use Rattle.frame_writer.proofs.close_message.Statement.{statement}
+use Rattle.frame_writer.proofs.close_message.Tie as tie
+
+pub close-message-spec : {M : Type 1} → statement M
+close-message-spec =
+    tie.close
+    (tie.spec
+    (λ c κs. search needs)
+    (λ c κs. search needs)
+    (λ c. search needs)
+    (λ c. (search message-closed, search needs)))
