@@ -2,7 +2,7 @@
 use text::Class;
 ghost use mathlib.Core.Path.{_≡_};
 ghost use mathlib.Core.List.{[]};
-ghost use Prim.Native.Nat.{_≤_, _<_};
+ghost use Prim.Native.Nat.{_<_};
 ghost use lib.ListN.{length};
 ghost use Rattle.cards.specs.Entries.{nameOf, valueOf, between, Within, valueOr, orElse};
 

@@ -1,16 +1,15 @@
 -- What is written ends in its check value, and only that passes.
-use mathlib.Core.Path.{_≡_, refl, sym, ap, _∙_}
-use mathlib.Core.Bool.{Bool, true, false, _&&_}
-use mathlib.Core.List.{List, [], _∷_, _++_}
-use Prim.Native.Nat.{ℕ, _+_, _-_, _≤_, _<_}
-use native.Mathlib.Omega.{arith}
+use mathlib.Core.Path.{_≡_}
+use mathlib.Core.Bool.{Bool, false}
+use mathlib.Core.List.{List}
+use Prim.Native.Nat.{ℕ, _-_, _≤_, _<_}
 use lib.Dec.{eqb}
-use lib.ListN.{length, take, drop}
+use lib.ListN.{length, take}
 use borrow.Author.Tests.{le-leb, lt-leb}
 use Rattle.octets.specs.Wrote.{Wrote}
 use Rattle.hexadecimal.specs.Hex.{hex4, readHex4}
 use Rattle.hexadecimal.specs.declared.Hex4.{Hex4}
-use Rattle.hexadecimal.specs.declared.Hex4.the-variants.{Number, Bad}
+use Rattle.hexadecimal.specs.declared.Hex4.the-variants.{Number}
 use Rattle.checksum.specs.Checksum.{sumOf, sumDigits, isSum, endsInSum}
 use Rattle.checksum.specs.declared.Kind.{Kind}
 

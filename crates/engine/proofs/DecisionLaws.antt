@@ -1,20 +1,18 @@
 -- A decision is reached group by group of the questions, and tells the answer: what its command is, and that every question was a yes.
 use mathlib.Core.Path.{_≡_, refl, sym, ap, _∙_}
-use mathlib.Core.Bool.{Bool, true, false, cond, _&&_}
+use mathlib.Core.Bool.{Bool, true, false}
 use mathlib.Core.List.{List, [], _∷_, _++_}
 use mathlib.Core.Option.{Option, none, some}
 use Prim.Native.Nat.{ℕ}
-use Rattle.octets.proofs.Flags.{nope, and-first}
+use Rattle.octets.proofs.Flags.{nope}
 use Rattle.fields.specs.Values.{Value}
-use Rattle.frames.specs.Frames.{isWhole, isChecked}
 use Rattle.commands.specs.declared.Command.{Command}
 use Rattle.commands.specs.declared.Command.the-variants.{RS, KC, KR, KL, KF, KX, KD, GA, GL, KQ, Unknown}
 use Rattle.engine.specs.Requests.{isOneOfTen, commandIn, fieldsIn, recordIn, slotIn}
 use Rattle.engine.specs.Questions.{Call, Question, _otherwise_, tableQuestions, messageQuestions, questions, firstNo}
-use Rattle.engine.specs.Answers.{effect, refused, answerTo, answerOf}
+use Rattle.engine.specs.Answers.{effect, refused, answerOf}
 use Rattle.engine.specs.Decisions.{decided, granted, laterQuestions, decisionFor, decisionOf}
 use Rattle.engine.specs.declared.Refusal.{Refusal}
-use Rattle.engine.specs.declared.Refusal.the-variants.{UnknownHeader}
 use Rattle.engine.specs.declared.Decision.{Decision}
 use Rattle.engine.specs.declared.Decision.the-variants.{Refuse, Reset, Pend, Open, Load, Finish, Delete, Clear, Show, Enumerate, Query}
 use Rattle.engine.proofs.QuestionLaws.{AllYes, all-yes}

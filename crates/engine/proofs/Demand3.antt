@@ -1,14 +1,14 @@
 -- DEMAND 3 of the engine: for every list of calls, from empty tables of all row counts, whatever the requests, supplements and buffers hold, and whatever sequence SM?GL's list has.
-use mathlib.Core.Path.{_≡_, refl, sym, _∙_}
-use mathlib.Core.List.{List, [], _∷_, _++_}
+use mathlib.Core.Path.{_≡_, refl}
+use mathlib.Core.List.{List}
 use Prim.Native.Nat.{ℕ}
-use lib.ListN.{length, take, drop, replicate}
+use lib.ListN.{length, drop}
 use lib.Seq.{take-at}
 use Rattle.rows.specs.Slots.{freeSlot}
 use Rattle.rows.specs.Registers.{freeRegister}
 use Rattle.rows.proofs.ListLaws.{map-replicate}
 use Rattle.history.specs.History.{finally, trace}
-use Rattle.history.specs.Model.{Tables, Item, empty}
+use Rattle.history.specs.Model.{Tables, empty}
 use Rattle.history.specs.Step.{Step}
 use Rattle.history.specs.Demand3.{Demand3}
 use Rattle.history.proofs.Theorem as theorem

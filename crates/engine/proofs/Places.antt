@@ -1,7 +1,7 @@
 -- The places that the engine finds, in the words of demand 3: a slot's row, the row of a new session, the row of a key.
 use mathlib.Core.Path.{_≡_, refl, sym, _∙_}
-use mathlib.Core.Bool.{Bool, true, false, not, _&&_}
-use mathlib.Core.List.{List, [], _∷_, map}
+use mathlib.Core.Bool.{true, false}
+use mathlib.Core.List.{List, map}
 use mathlib.Core.Option.{Option, none, some}
 use Prim.Native.Nat.{ℕ, _-_, _<_}
 use native.Mathlib.Omega.{arith}
@@ -11,7 +11,7 @@ use borrow.Author.Tests.{leb-true}
 use Rattle.octets.proofs.Flags.{nope, and-first, and-second}
 use Rattle.text.specs.Classes.{areAll}
 use Rattle.attributes.specs.Table.{KSL}
-use Rattle.rows.specs.Lists.{everyRow, firstFrom}
+use Rattle.rows.specs.Lists.{everyRow}
 use Rattle.rows.specs.Slots.{isZeroSlot, hasState, isNamed, isSlotSound, freeSlot}
 use Rattle.rows.specs.Registers.{isVacant, attributeOf, isKeyOf, freeRegister}
 use Rattle.rows.specs.declared.SlotRow.{SlotRow}
@@ -21,7 +21,7 @@ use Rattle.rows.proofs.ListLaws.{found, found-none, every-at}
 use Rattle.history.specs.Model.{State, slotRow, used, vacant, key}
 use Rattle.history.specs.Step.{Spot, own, fresh, Home, held, spare}
 use Rattle.engine.specs.Questions.{slotPlace, freePlace, keyPlace, vacantPlace, isPlace, placeElse, sessionPlace, storePlace, isFilled}
-use Rattle.engine.specs.Words.{stateIn, slotIs, registerIs, tablesOf}
+use Rattle.engine.specs.Words.{stateIn, registerIs, tablesOf}
 use Rattle.engine.proofs.RowWords.{slot-row, named-reads, reads-named, free-state-reads, free-vacant, register-row, vacant-reads, key-reads, reads-key}
 
 -- a slot that is known

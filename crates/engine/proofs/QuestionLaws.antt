@@ -1,9 +1,9 @@
 -- The first no decides: what is known where every question is a yes, and where one is a no.
 use mathlib.Core.Path.{_≡_, refl}
 use mathlib.Core.Logic.{_⊎_, inl, inr}
-use mathlib.Core.Bool.{Bool, true, false, cond, _&&_}
+use mathlib.Core.Bool.{Bool, true, false, _&&_}
 use mathlib.Core.List.{List, [], _∷_, _++_}
-use mathlib.Core.Option.{Option, none, some}
+use mathlib.Core.Option.{none, some}
 use Rattle.octets.proofs.Flags.{nope, and-first, and-second}
 use Rattle.engine.specs.Questions.{Question, _otherwise_, firstNo}
 use Rattle.engine.specs.declared.Refusal.{Refusal}

@@ -2,28 +2,28 @@
 use mathlib.Core.Path.{_≡_, refl, sym, ap, _∙_}
 use mathlib.Core.Bool.{Bool, true, false, cond, not, _&&_, _||_}
 use mathlib.Core.List.{List, [], _∷_, map}
-use mathlib.Core.Option.{Option, none, some}
-use Prim.Native.Nat.{ℕ, zero, suc, _+_, _-_, _≤_, _<_}
+use mathlib.Core.Option.{Option}
+use Prim.Native.Nat.{ℕ, _-_, _≤_}
 use native.Mathlib.Omega.{arith}
 use lib.Dec.{eqb, leb}
 use lib.ListN.{length, getD, List·getD-map}
 use borrow.Author.Tests.{leb-true, eqb-true}
 use Rattle.octets.specs.Strings.{sameBytes, isNot, allOf}
-use Rattle.octets.proofs.Flags.{nope, and-first, and-second, and-both, or-cases, no, holds}
+use Rattle.octets.proofs.Flags.{nope, and-first, and-second, no, holds}
 use Rattle.octets.proofs.StringLaws.{same-self, same-equal}
 use Rattle.text.specs.Classes.{areAll, isAlphanumeric, isMark}
 use Rattle.text.specs.Identifiers.{isIdentifier}
-use Rattle.text.specs.declared.Class.the-variants.{Identifier, Zero}
+use Rattle.text.specs.declared.Class.the-variants.{Identifier}
 use Rattle.text.proofs.ClassLaws.{class-plain}
 use Rattle.decimals.specs.Decimals.{isNumber, isUnpadded}
 use Rattle.forms.specs.Forms.{inForm}
-use Rattle.forms.specs.declared.Form.the-variants.{Hex, Name, Number}
+use Rattle.forms.specs.declared.Form.the-variants.{Hex}
 use Rattle.attributes.specs.Table.{SGC, KRN, KSL, table}
-use Rattle.cards.specs.Entries.{valueOf, orElse, entryBytes}
+use Rattle.cards.specs.Entries.{orElse, entryBytes}
 use Rattle.incoming_cards.specs.Incoming.{isIncoming}
 use Rattle.stored_cards.specs.Stored.{storedCard, inRow}
 use Rattle.card_laws.proofs.Incoming.{sgc-back, krn-back, ksl-back}
-use Rattle.rows.specs.Lists.{padded, trimmed}
+use Rattle.rows.specs.Lists.{trimmed}
 use Rattle.rows.specs.Slots.{stateNumber, isZeroSlot, hasState, kmcidOf, isNamed, isFilledSlot, isSlotSound, freeSlot, filledSlot, movedSlot, resetSlot}
 use Rattle.rows.specs.Registers.{isVacant, attributeOf, isKeyOf, isUnder, isRegisterSound, freeRegister, filledRegister, withoutSlot}
 use Rattle.rows.specs.declared.SlotRow.{SlotRow}
@@ -31,7 +31,7 @@ use Rattle.rows.specs.declared.RegisterRow.{RegisterRow}
 use Rattle.rows.specs.declared.SlotState.{SlotState}
 use Rattle.rows.specs.declared.SlotState.the-variants.{Free, Pending, Loading, Idle}
 use Rattle.rows.proofs.ListLaws.{trimmed-padded, trimmed-all}
-use Rattle.history.specs.Model.{State, pending, loading, idle, Slot, free, used, Register, vacant, key, dropKey, stopped}
+use Rattle.history.specs.Model.{State, free, used, vacant, key, dropKey, stopped}
 use Rattle.engine.specs.Questions.{groupIn, revisionIn}
 use Rattle.engine.specs.Words.{stateIn, slotIs, registerIs}
 

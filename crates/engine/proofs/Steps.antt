@@ -40,7 +40,7 @@ use Rattle.rows.specs.declared.RegisterRow.{RegisterRow}
 use Rattle.rows.specs.declared.SlotState.{SlotState}
 use Rattle.rows.specs.declared.SlotState.the-variants.{Pending, Loading, Idle}
 use Rattle.rows.proofs.ListLaws.{map-set, map-sweep, every-true}
-use Rattle.history.specs.Model.{State, pending, loading, idle, used, free, vacant, key, kl, loaded, Item, _⇒_, dropKey, dropSlot, stopped, reset}
+use Rattle.history.specs.Model.{pending, loading, used, free, key, kl, loaded, Item, _⇒_, dropKey, dropSlot, stopped, reset}
 use Rattle.history.specs.Step.{Step, refuses, reads, starts, responds, loads, finishes, deletes, clears, resets}
 use Rattle.engine.specs.Requests.{commandIn, fieldsIn, isOneOfTen, registerIn, recordIn, kmcIdentityIn, slotIn, cardIn, firstText}
 use Rattle.engine.specs.Questions.{Call, asked, areCounts, isPlace, slotPlace, sessionPlace, storePlace, slotNamed, placeIn, isFilled, groupIn, revisionIn, questions, firstNo}

@@ -5,7 +5,6 @@ use mathlib.Core.List.{List, [], _∷_}
 use Prim.Native.Nat.{ℕ, _%_}
 use lib.Dec.{eqb}
 use lib.ListN.{length}
-use Rattle.octets.specs.Strings.{allOf}
 use Rattle.octets.proofs.Flags.{nope, and-first, and-second}
 use Rattle.octets.proofs.StringLaws.{all-append}
 use Rattle.text.specs.Classes.{isOf, areAll}

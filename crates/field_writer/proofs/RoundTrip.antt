@@ -1,14 +1,13 @@
 -- What is written as fields is read back as the same fields, one after the other.
-use mathlib.Core.Path.{_≡_, refl, sym, ap, _∙_}
-use mathlib.Core.Bool.{Bool, true, false, cond, _&&_}
-use mathlib.Core.List.{List, [], _∷_, _++_, append-assoc, map}
+use mathlib.Core.Path.{_≡_, refl, ap, _∙_}
+use mathlib.Core.Bool.{true}
+use mathlib.Core.List.{List, [], _∷_, _++_, append-assoc}
 use Prim.Native.Nat.{ℕ, _%_, _^_, _≤_, _<_}
 use native.Mathlib.Omega.{arith}
-use lib.Dec.{eqb, leb}
+use lib.Dec.{eqb}
 use lib.ListN.{length}
 use borrow.Author.Tests.{leb-true}
-use Rattle.octets.specs.Strings.{isNot, run, allOf}
-use Rattle.pieces.specs.Pieces.{pieces, isEnded}
+use Rattle.octets.specs.Strings.{isNot, allOf}
 use Rattle.octets.proofs.Flags.{nope, and-first, and-second}
 use Rattle.pieces.proofs.PieceLaws.{pieces-cons, ended-cons}
 use Rattle.text.specs.Classes.{areAll}
@@ -16,9 +15,8 @@ use Rattle.text.specs.declared.Class.the-variants.{Digit, Text, Hexadecimal}
 use Rattle.text.proofs.ClassLaws.{class-plain}
 use Rattle.decimal_writer.specs.Digits.{decimalBytes}
 use Rattle.decimal_writer.proofs.RoundTrip.{written-reads, written-number, written-digits}
-use Rattle.timestamp.specs.Timestamps.{isDateTime}
 use Rattle.timestamp.proofs.Plain.{date-plain}
-use Rattle.fields.specs.Values.{Value, number, string, date, octets, bad, isOctets, provided, typed, valueOf, valuesOf, contentBytes, fieldBytes, payloadBytes, isValue, areValues}
+use Rattle.fields.specs.Values.{Value, number, string, date, octets, bad, isOctets, typed, valueOf, valuesOf, contentBytes, fieldBytes, payloadBytes, isValue, areValues}
 
 -- a piece that holds no ~ is the first field
 values-cons : (p r : List ℕ) → allOf (isNot 126) p ≡ true → valuesOf (p ++ (126 ∷ r)) ≡ valueOf p ∷ valuesOf r

@@ -1,18 +1,16 @@
 -- The cases of the readers, each with what the code knows where it answers as premises.
 use mathlib.Core.Path.{_≡_, refl, sym, ap, _∙_}
 use mathlib.Core.Bool.{Bool, true, false, cond, not}
-use mathlib.Core.List.{List, [], _∷_, _++_, map}
-use mathlib.Core.Logic.{_⊎_, inl, inr, ⊎-elim}
-use Prim.Native.Nat.{ℕ, zero, suc, _+_, _-_, _%_, _^_, _≤_, _<_}
+use mathlib.Core.List.{List, _∷_}
+use mathlib.Core.Logic.{_⊎_, ⊎-elim}
+use Prim.Native.Nat.{ℕ, suc, _+_, _-_, _%_, _^_, _≤_, _<_}
 use native.Mathlib.Omega.{arith}
-use native.Mathlib.Nat.{sub-zero, zero-sub, suc-sub-suc}
-use lib.ListN.{length, getD, take, drop, length-drop, drop-of-length-le}
-use lib.Seq.{drop-cons, drop-drop, take-nil}
+use lib.ListN.{length, getD, take, drop, drop-of-length-le}
+use lib.Seq.{drop-cons}
 use native.Mathlib.Numerals.{add-one}
-use borrow.Author.Tests.{eq-eqb, ne-eqb, not-true, not-false}
+use borrow.Author.Tests.{ne-eqb, not-true, not-false}
 use denote.Enum.Declared.{tagOf}
 use Rattle.octets.specs.Strings.{isNot, run}
-use Rattle.pieces.specs.Pieces.{pieces, isEnded}
 use Rattle.octets.proofs.Below.{below-or}
 use Rattle.pieces.proofs.PieceLaws.{no-piece, next-piece, not-ended, next-ended}
 use Rattle.text.specs.Classes.{areAll}
@@ -21,7 +19,7 @@ use Rattle.decimals.specs.Decimals.{decimal, isNumber}
 use Rattle.decimals.proofs.NumberLaws.{number-short, number-most}
 use Rattle.timestamp.specs.Timestamps.{dateTimeOf, isMoment, isDateTime}
 use Rattle.timestamp.specs.declared.Moment as timestamp
-use Rattle.fields.specs.Values.{Value, number, string, date, octets, bad, isOctets, provided, typed, valueOf, valuesOf, first, valueAt, after, nextAt}
+use Rattle.fields.specs.Values.{Value, number, bad, isOctets, provided, typed, valueOf, valuesOf, first, valueAt, after, nextAt}
 use Rattle.fields.specs.Bounds.{meant, Within, numberOf, placeAfter}
 use Rattle.fields.specs.declared.Field.{Field}
 use Rattle.fields.specs.declared.Field.the-variants as code

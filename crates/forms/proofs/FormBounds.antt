@@ -7,7 +7,7 @@ use Prim.Native.Nat.{ℕ, _≤_}
 use native.Mathlib.Omega.{arith}
 use lib.Dec.{leb, eqb}
 use lib.ListN.{length, getD}
-use borrow.Author.Tests.{leb-true, eqb-true, le-leb, eq-eqb}
+use borrow.Author.Tests.{eqb-true, eq-eqb}
 use Rattle.octets.specs.Strings.{allOf, isNot}
 use Rattle.octets.proofs.Flags.{nope, and-first, and-second, and-both, or-cases}
 use Rattle.octets.proofs.StringLaws.{all-wider}

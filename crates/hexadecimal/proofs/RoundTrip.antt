@@ -1,8 +1,8 @@
 -- What is written as four digits is read back, and what is read is what would be written.
-use mathlib.Core.Path.{_≡_, refl, sym, ap, _∙_}
+use mathlib.Core.Path.{_≡_, refl, ap}
 use mathlib.Core.Bool.{Bool, true, false, cond, _&&_}
 use mathlib.Core.List.{List, [], _∷_, _++_}
-use Prim.Native.Nat.{ℕ, zero, suc, _+_, _*_, _/_, _%_, _≤_, _<_}
+use Prim.Native.Nat.{ℕ, _+_, _*_, _/_, _%_, _≤_, _<_}
 use native.Mathlib.Omega.{arith}
 use lib.Dec.{T, eqb, eqb→eq, ltb}
 use lib.ListN.{length}
@@ -11,7 +11,6 @@ use borrow.Author.Tests.{lt-ltb, le-leb, ltb-true, eqb-true}
 use Rattle.octets.proofs.Below.{at-below, below-or}
 use Rattle.octets.proofs.Flags.{nope, and-first, and-second}
 use Rattle.hexadecimal.specs.Hex.{hexDigit, hexValue, hex4, fromDigits, readHex4}
-use Rattle.hexadecimal.specs.declared.Hex4.{Hex4}
 use Rattle.hexadecimal.specs.declared.Hex4.the-variants.{Number, Bad}
 use Rattle.hexadecimal.proofs.HexLaws.{above}
 

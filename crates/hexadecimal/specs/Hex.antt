@@ -1,6 +1,6 @@
 -- Hexadecimal digits, 0-9 and A-F, capitals only (document 01; 003 clause 5.1.1), and a 16-bit number as four of them, the high digit first.
 use Prim.Native.Nat.{ℕ, _+_, _-_, _*_, _/_, _%_}
-use mathlib.Core.Bool.{Bool, true, false, cond, _&&_}
+use mathlib.Core.Bool.{cond, _&&_}
 use mathlib.Core.List.{List, [], _∷_}
 use lib.Dec.{ltb, leb}
 use lib.ListN.{length, getD}

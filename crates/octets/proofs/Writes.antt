@@ -1,12 +1,12 @@
 -- How writes are composed.
 use mathlib.Core.Path.{_≡_, refl, sym, ap, _∙_}
 use mathlib.Core.List.{List, [], _∷_, _++_, append-assoc}
-use Prim.Native.Nat.{ℕ, zero, suc, _+_, _-_, _≤_, _<_}
+use Prim.Native.Nat.{ℕ, suc, _+_, _-_, _≤_, _<_}
 use native.Mathlib.Nat.{add-zero, add-suc, suc-add, zero-add}
 use native.Mathlib.Numerals.{add-one}
 use native.Mathlib.Omega.{arith}
-use lib.ListN.{length, take, drop, getD, set, length-append, length-set, drop-of-length-le, List·getD-append}
-use lib.Seq.{sets, sets-eq, length-sets, drop-cons, length-take-le, getD-append-add, drop-at, take-at}
+use lib.ListN.{length, take, drop, getD, set, length-append, drop-of-length-le, List·getD-append}
+use lib.Seq.{sets, sets-eq, drop-cons, length-take-le, getD-append-add, drop-at, take-at}
 use Rattle.octets.specs.Wrote.{Wrote}
 
 -- two runs of stores, one after the other, are one

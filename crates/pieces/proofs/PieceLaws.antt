@@ -1,17 +1,17 @@
 -- A byte string cut at a delimiter, piece by piece: the first one, and what follows it.
 use mathlib.Core.Path.{_≡_, refl, sym, ap, _∙_}
-use mathlib.Core.Bool.{Bool, true, false, cond, not, _&&_}
-use mathlib.Core.List.{List, [], _∷_, _++_, append-assoc}
+use mathlib.Core.Bool.{Bool, true, false, not}
+use mathlib.Core.List.{List, [], _∷_, _++_}
 use Prim.Native.Nat.{ℕ, zero, suc, _+_, _-_, _≤_, _<_}
 use native.Mathlib.Numerals.{add-one}
 use native.Mathlib.Omega.{arith}
 use lib.Dec.{eqb}
 use lib.ListN.{length, getD, take, drop, length-drop, drop-of-length-le}
 use lib.Seq.{drop-drop}
-use borrow.Author.Tests.{eq-eqb, ne-eqb, eqb-true}
+use borrow.Author.Tests.{eq-eqb, ne-eqb}
 use Rattle.octets.specs.Strings.{isNot, run, allOf}
-use Rattle.pieces.specs.Pieces.{onto, pieces, isEnded, joined}
-use Rattle.octets.proofs.Flags.{nope, and-first, and-second}
+use Rattle.pieces.specs.Pieces.{pieces, isEnded}
+use Rattle.octets.proofs.Flags.{and-first, and-second}
 use Rattle.octets.proofs.StringLaws.{rest, run-le, run-stopped, run-turn}
 
 -- until: i and what is left of the run are the whole, x

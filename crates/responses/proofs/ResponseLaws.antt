@@ -1,16 +1,15 @@
 -- Every message that is written reads back: a request as its header and payload, a response as its header, status and fields.
 use mathlib.Core.Path.{_≡_, refl, sym, ap, _∙_}
-use mathlib.Core.Bool.{Bool, true, false, _&&_}
+use mathlib.Core.Bool.{true}
 use mathlib.Core.List.{List, [], _∷_, _++_, append-assoc}
-use Prim.Native.Nat.{ℕ, _+_, _-_, _≤_, _<_}
+use Prim.Native.Nat.{ℕ, _+_, _-_}
 use native.Mathlib.Omega.{arith}
-use lib.Dec.{eqb}
 use lib.ListN.{length, take, drop, length-append}
 use lib.Seq.{take-at, drop-at}
 use borrow.Author.Tests.{eq-eqb, le-leb}
 use Rattle.octets.specs.Strings.{isNot, run, allOf}
 use Rattle.octets.proofs.StringLaws.{all-run, all-append, all-take, all-drop}
-use Rattle.checksum.specs.Checksum.{sumDigits, endsInSum}
+use Rattle.checksum.specs.Checksum.{sumDigits}
 use Rattle.checksum.specs.declared.Kind.the-variants.{Arc}
 use Rattle.checksum.proofs.RoundTrip.{digits-pass, sum-ends}
 use Rattle.hexadecimal.specs.Hex.{hexDigit}
@@ -18,7 +17,7 @@ use Rattle.text.specs.Classes.{isOf, areAll}
 use Rattle.text.specs.declared.Class.the-variants.{Printable}
 use Rattle.text.proofs.ClassLaws.{class-plain}
 use Rattle.text.proofs.Printable.{printable-bytes}
-use Rattle.fields.specs.Values.{Value, valuesOf, payloadBytes, areValues}
+use Rattle.fields.specs.Values.{Value, payloadBytes, areValues}
 use Rattle.field_writer.proofs.RoundTrip.{payload-read}
 use Rattle.field_writer.proofs.Printable.{payload-printable}
 use Rattle.frames.specs.Frames.{endsInReturn, isChecked, textOf, headerOf, payloadOf, ending, framed, requestBytes, answered, headBytes}

@@ -1,7 +1,6 @@
 -- The run is what the engine's definition computes, call by call, and so the list of demand 3.
-use mathlib.Core.Path.{_≡_, refl, ap, _∙_}
+use mathlib.Core.Path.{_≡_, refl, ap}
 use mathlib.Core.List.{List, [], _∷_, map}
-use Prim.Native.Nat.{ℕ}
 use Rattle.crc.specs.Crc.{crcBit, crcEight, crcByte}
 use Rattle.hexadecimal.specs.Hex.{hexDigit, hexValue, fromDigits, readHex4}
 use Rattle.checksum.specs.Checksum.{sumDigits, endsInSum}
@@ -34,8 +33,8 @@ use Rattle.engine.specs.Questions.{sessionPlace, storePlace, slotNamed, areCoun
 use Rattle.engine.specs.Answers.{slotsOpened, slotsWithout, loadedCard, cardPlace, answerOf}
 use Rattle.engine.specs.Words.{slotIs, registerIs, isAccepted, emptyRows}
 use Rattle.engine.specs.Answers as answers
-use Rattle.engine.specs.Words.{Handed, Lent, rowsAfter, itemAt}
-use Rattle.history.specs.History.{finally, trace}
+use Rattle.engine.specs.Words.{Lent, rowsAfter, itemAt}
+use Rattle.history.specs.History.{trace}
 use Rattle.history.specs.Model.{Item}
 use Rattle.sample_run.specs.Run.{Stage, stages}
 

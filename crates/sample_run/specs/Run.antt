@@ -10,7 +10,7 @@ use Rattle.rows.specs.declared.RegisterRow.{RegisterRow}
 use Rattle.rows.specs.declared.SlotState.the-variants.{Pending, Loading, Idle}
 use Rattle.rows.specs.declared.Supplement.{Supplement}
 use Rattle.history.specs.Model.{Item, kc, kr, kl, kf, kx, kd, rs, done, refused, loaded, _⇒_}
-use Rattle.engine.specs.Words.{Handed, Lent, emptyRows}
+use Rattle.engine.specs.Words.{Handed, Lent}
 
 -- 20260101T000000Z
 abbrev pub clock : List ℕ

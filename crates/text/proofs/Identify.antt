@@ -1,5 +1,5 @@
 -- The cases of an identifier, and what it cannot hold.
-use mathlib.Core.Path.{_≡_, refl, sym, ap, _∙_}
+use mathlib.Core.Path.{_≡_}
 use mathlib.Core.Bool.{Bool, true, false, not, _&&_}
 use mathlib.Core.List.{List}
 use Prim.Native.Nat.{ℕ, _<_, _≤_}
@@ -8,7 +8,7 @@ use lib.ListN.{length, getD}
 use borrow.Author.Tests.{le-leb, lt-leb, leb-true, not-true, not-false}
 use Rattle.octets.specs.Strings.{allOf, isNot}
 use Rattle.octets.proofs.Flags.{and-first, and-second}
-use Rattle.text.specs.Classes.{isAlphanumeric, isMark, isOf, areAll}
+use Rattle.text.specs.Classes.{isAlphanumeric, isOf, areAll}
 use Rattle.text.specs.Identifiers.{isIdentifier}
 use Rattle.text.specs.declared.Class.the-variants.{Identifier}
 use Rattle.text.proofs.ClassLaws.{class-plain}

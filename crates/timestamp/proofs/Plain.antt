@@ -17,7 +17,6 @@ use Rattle.text.proofs.ClassLaws.{class-plain}
 use Rattle.decimals.specs.Decimals.{decimal}
 use Rattle.calendar.specs.Calendar.{isDate, isTime}
 use Rattle.timestamp.specs.Timestamps.{momentOf, timestampOf, dateTimeOf, isMoment, isTimestamp, isDateTime}
-use Rattle.timestamp.specs.declared.Moment.{Moment}
 use Rattle.timestamp.specs.declared.Moment.the-variants.{At, Bad}
 
 -- what a moment says of its digits; b is the test of the definition, x the number

@@ -1,6 +1,5 @@
 -- `calendar::is_leap` meets its contract, a law a return.
 use Rattle.calendar.proofs.DateLaws.{leapCases}
-use borrow.Author.Needs.{needs}
 use Rattle.calendar.proofs.is_leap.Statement.{statement}
 use Rattle.calendar.proofs.is_leap.Tie as tie
 

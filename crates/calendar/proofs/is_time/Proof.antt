@@ -1,6 +1,5 @@
 -- `calendar::is_time` meets its contract, a law a return.
 use Rattle.calendar.proofs.DateLaws.{timeCases}
-use borrow.Author.Needs.{needs}
 use Rattle.calendar.proofs.is_time.Statement.{statement}
 use Rattle.calendar.proofs.is_time.Tie as tie
 

@@ -1,5 +1,5 @@
 -- `crc::crc_byte` meets its contract: the table has the eight bits of each byte, and a byte leaves the high half of the check value alone.
-use mathlib.Core.Path.{_≡_, ap, sym, _∙_}
+use mathlib.Core.Path.{ap, sym, _∙_}
 use Prim.Native.Nat.{_<_, _%_, _/_}
 use native.Mathlib.Omega.{arith}
 use borrow.Author.Needs.{needs}
