@@ -24,7 +24,7 @@ use Rattle.engine.specs.declared.Refusal.{Refusal}
 use Rattle.engine.specs.declared.Refusal.the-variants.{RowCounts, ShortBuffer, UnsoundRows, BadSupplement, BadFrame, BadChecksum, UnknownHeader, BadFields, BadRecord, BadForm, Expired, UnknownSlot, NoFreeSlot, WrongState, OtherModule, OtherFingerprint, OtherTvp, OtherTag, CheckFailed, NoFreeRegister, EmptyRegister}
 use Rattle.engine.specs.declared.Outcome.{Outcome}
 use Rattle.engine.specs.declared.Outcome.the-variants.{Accepted, Done, Refused}
-use Rattle.refusals.specs.Tellings.{headerFor}
+use Rattle.refusal_numbers.specs.Tellings.{headerFor}
 use Rattle.engine.proofs.RefusalLaws.{isSilent, Group, of-tables, of-message, of-later, refusal-group, tables-silent, message-general}
 use Rattle.engine.proofs.AnswerWords.{header-five, refusal-said}
 use Rattle.engine.proofs.AnswerLaws.{isYes, refused-by}

@@ -48,7 +48,7 @@ pub extern "C" fn diminurel_handle(
     let length = a.length;
     let tables = a.tables;
     Reply {
-        outcome: refusals::outcome_number(o),
+        outcome: refusal_numbers::outcome_number(o),
         state: state_byte(o),
         length,
         tables,

@@ -1,5 +1,5 @@
--- An entry of the table says what its refusal says; the number chooses the header.
-use mathlib.Core.Path.{_≡_, sym, ap, _∙_}
+-- What is told is the response; the number chooses the header.
+use mathlib.Core.Path.{_≡_}
 use mathlib.Core.List.{List}
 use Prim.Native.Nat.{ℕ, _+_, _≤_, _<_}
 use native.Mathlib.Omega.{arith}
@@ -13,24 +13,11 @@ use Rattle.responses.specs.Responses.{responseBytes}
 use Rattle.replies.proofs.ReplyLaws.{header-five}
 use Rattle.engine.specs.Refusals.{Header, silent, general, own, refusal}
 use Rattle.engine.specs.Answers.{errorHeader, refusalBytes}
-use Rattle.engine.specs.Outcomes.{outcomeNumber}
 use Rattle.engine.specs.declared.Refusal.{Refusal}
-use Rattle.engine.specs.declared.Outcome.{Outcome}
-use Rattle.engine.specs.declared.Outcome.the-variants.{Refused}
-use Rattle.refusals.specs.Tellings.{statusIn, textIn, toldIn, CanTell}
-use Rattle.refusals.specs.declared.Entry.{Entry}
-use Rattle.refusals.specs.declared.Telling.{Telling}
-
--- entry_of
-pub entered : (r x : Refusal) (e : Entry) → r ≡ x → toldIn e ≡ refusal x → toldIn e ≡ refusal r
-entered r x e p q = q ∙ ap refusal (sym p)
-
--- refusal_number, outcome_number
-pub number-told : (r : Refusal) (e : Entry) → toldIn e ≡ refusal r → e .0 ≡ refusal r .number
-number-told r e p = ap (λ t. t .number) p
-
-pub refused-number : (o : Outcome) (r : Refusal) (n : ℕ) → o ≡ Refused r → n ≡ refusal r .number → n ≡ outcomeNumber o
-refused-number o r n p q = rw p q
+use Rattle.refusal_numbers.specs.Tellings.{statusIn, textIn, toldIn}
+use Rattle.refusal_numbers.specs.declared.Entry.{Entry}
+use Rattle.refusal_numbers.specs.declared.Telling.{Telling}
+use Rattle.refusals.specs.Tellings.{CanTell}
 
 -- tell: the response with status and text of what is told
 pub told-so : {d f : List ℕ} {z : ℕ} (h s : List ℕ) (t x : Telling) (n : ℕ) (v : List Value) → t ≡ x → statusIn x ≡ s → v ≡ textIn x n → Wrote d 0 (responseBytes h s v) f z → Wrote d 0 (responseBytes h (statusIn t) (textIn t n)) f z

@@ -17,7 +17,7 @@ pub fn key_place(registers: [RegisterRow; 32], m: usize, g: &[u8], k: &[u8]) -> 
     let mut i = 0;
     while i < m {
         let r = registers[i];
-        if register_rows::is_key_of(r, g, k) {
+        if held_keys::is_key_of(r, g, k) {
             return Place::At(i);
         }
         i += 1;

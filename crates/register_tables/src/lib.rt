@@ -60,7 +60,7 @@ pub fn without_keys_of(registers: [RegisterRow; 32], m: usize, s: &[u8]) -> [Reg
     let mut at = 0;
     while at < m {
         let r = left[at];
-        left[at] = register_rows::without_slot(r, s);
+        left[at] = held_keys::without_slot(r, s);
         at += 1;
     }
     left

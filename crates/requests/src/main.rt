@@ -57,7 +57,7 @@ fn hand_in(t: Tables, request: &[u8]) -> Tables {
     let a = core::handle(t, supplement(), request, &mut response);
     say(b"  ");
     let o = a.outcome;
-    io::print_decimal(STDOUT_FILENO, refusals::outcome_number(o) as u64);
+    io::print_decimal(STDOUT_FILENO, refusal_numbers::outcome_number(o) as u64);
     let n = a.length;
     if 1 <= n {
         say(b" ");

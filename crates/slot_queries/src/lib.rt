@@ -17,7 +17,7 @@ fn put_register(dst: &mut [u8], at: usize, number: u32, row: RegisterRow, name: 
     ensures { λ r. ⌜ Wrote (now (dst .entry)) at (payloadBytes (numberFields (numbersFrom (isUnder (now (name .entry))) number (row ∷ [])))) (now (dst .exit)) r ⌝ }
     ensures short { λ r. ⌜ r ≤ at + 12 ⌝ }
 {
-    if !register_rows::is_under(row, name) {
+    if !held_keys::is_under(row, name) {
         return at;
     }
     field_writer::put_number(dst, at, number)

@@ -54,7 +54,7 @@ pub fn are_slots_sound(slots: [SlotRow; 8], n: usize) -> bool
     let mut i = 0;
     while i < n {
         let r = slots[i];
-        if !slot_tests::is_slot_sound(r) {
+        if !slot_forms::is_slot_sound(r) {
             return false;
         }
         i += 1;

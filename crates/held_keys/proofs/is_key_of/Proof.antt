@@ -1,0 +1,16 @@
+-- `held_keys::is_key_of` meets its contract, a law a return.
+use Rattle.held_keys.proofs.HeldLaws.{keyCases}
+use borrow.Author.Needs.{needs}
+use Rattle.held_keys.proofs.is_key_of.Statement.{statement}
+use Rattle.held_keys.proofs.is_key_of.Tie as tie
+
+pub is-key-of-spec : {M : Type 1} → statement M
+is-key-of-spec =
+    tie.close
+    (tie.spec
+    (λ c κs. search needs)
+    (λ c. search keyCases)
+    (λ c κs. search needs)
+    (λ c. search keyCases)
+    (λ c κs. search needs)
+    (λ c. search keyCases))

@@ -1,0 +1,17 @@
+-- `slot_forms::is_filled_slot` meets its contract, a law a return.
+use Rattle.slot_forms.proofs.FormLaws.{filledCases}
+use borrow.Author.Needs.{needs}
+use Rattle.slot_forms.proofs.is_filled_slot.Statement.{statement}
+use Rattle.slot_forms.proofs.is_filled_slot.Tie as tie
+
+pub is-filled-slot-spec : {M : Type 1} → statement M
+is-filled-slot-spec =
+    tie.close
+    (tie.spec
+    (λ c κs. search needs)
+    (λ c. search filledCases)
+    (λ c κs. search needs)
+    (λ c. search filledCases)
+    (λ c κs. search needs)
+    (λ c κs. search needs)
+    (λ c. search filledCases))

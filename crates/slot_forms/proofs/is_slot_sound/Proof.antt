@@ -1,0 +1,16 @@
+-- `slot_forms::is_slot_sound` meets its contract, a law a return.
+use Rattle.slot_forms.proofs.FormLaws.{soundCases}
+use borrow.Author.Needs.{needs}
+use Rattle.slot_forms.proofs.is_slot_sound.Statement.{statement}
+use Rattle.slot_forms.proofs.is_slot_sound.Tie as tie
+
+pub is-slot-sound-spec : {M : Type 1} → statement M
+is-slot-sound-spec =
+    tie.close
+    (tie.spec
+    (λ c κs. search needs)
+    (λ c. search soundCases)
+    (λ c. search soundCases)
+    (λ c. search soundCases)
+    (λ c κs. search needs)
+    (λ c. search soundCases))
