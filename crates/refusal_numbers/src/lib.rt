@@ -47,7 +47,7 @@ pub fn entry_of(r: Refusal) -> Entry
 }
 
 // The number of a refusal.
-pub fn refusal_number(r: Refusal) -> u8
+fn refusal_number(r: Refusal) -> u8
     ensures { λ n. ⌜ n ≡ refusal r .number ⌝ }
 {
     let e = entry_of(r);

@@ -22,7 +22,7 @@ fn put_name(dst: &mut [u8], at: usize, row: SlotRow) -> usize
 }
 
 // Writes the identifiers of those of the first n rows that are not free, and answers the place after them.
-pub fn put_names(dst: &mut [u8], at: usize, slots: [SlotRow; 8], n: usize) -> usize
+fn put_names(dst: &mut [u8], at: usize, slots: [SlotRow; 8], n: usize) -> usize
     requires { ⌜ (n ≤ 8) × (at + 336 ≤ length (now dst)) ⌝ }
     ensures { λ r. ⌜ Wrote (now (dst .entry)) at (payloadBytes (nameFields (slotNames (take n slots)))) (now (dst .exit)) r ⌝ }
     ensures short { λ r. ⌜ r ≤ at + 336 ⌝ }

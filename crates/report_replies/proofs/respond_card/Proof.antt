@@ -1,5 +1,5 @@
 -- `report_replies::respond_card` meets its contract: the card is what stands in the row before its zeros.
-use Rattle.session_replies.proofs.ReplyWords.{head-long, plainly-written}
+use Rattle.session_replies.proofs.ReplyWords.{head-long}
 use Rattle.report_replies.proofs.ReportWords.{card-fits, card-written}
 use borrow.Author.Needs.{needs}
 use Rattle.report_replies.proofs.respond_card.Statement.{statement}

@@ -1,7 +1,6 @@
 -- `slot_rows::free_slot` meets its contract by computation.
 use mathlib.Core.Path.{refl}
 use Rattle.rows.specs.Slots.{freeSlot}
-use borrow.Author.Needs.{needs}
 use Rattle.slot_rows.proofs.free_slot.Statement.{statement}
 use Rattle.slot_rows.proofs.free_slot.Tie as tie
 
