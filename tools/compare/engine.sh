@@ -1,9 +1,14 @@
 #!/usr/bin/env bash
-# Compares the engine with the second implementation of reference/, call by call: tools/compare/engine.sh [calls [seed]].
+# Links the engine's static library into callers in C and Rust, and compares it with the second implementation of reference/, call by call: tools/compare/engine.sh [calls [seed]].
 set -eu -o pipefail
 cd "$(dirname "$0")/../.."
-rt staticlib port | grep -E '^rt: '
+rt staticlib diminurel | grep -E '^rt: '
+cc -std=c11 -Wall -Wextra -Werror -O2 -Iinclude callers/c/example.c target/staticlib/libdiminurel.a -o target/example-c
+target/example-c | diff callers/c/example.out -
+echo "callers/c: as expected"
+export DIMINUREL_LIB="$PWD/target/staticlib"
+(cd callers/rust && cargo test --quiet --offline --release)
 cd reference
 cargo test --quiet --offline --release
-cargo rustc --quiet --offline --release --features engine --bin compare -- -L "native=$PWD/../target/staticlib" -l static=port
+cargo build --quiet --offline --release --features engine --bin compare
 target/release/compare "$@"

@@ -36,7 +36,7 @@ use Rattle.engine.proofs.Demand3.{rowsOf, starts-empty, demand3}
 use Rattle.core.specs.Lists.{entryCall, tablesNext, entryItem, rowsIn, emptyTables}
 
 -- an answer has as many rows as its call
-abbrev Counted : Call → Answer → Type 0
+abbrev pub Counted : Call → Answer → Type 0
 Counted x a = (length (a .slots) ≡ length (x .slots)) × (length (a .registers) ≡ length (x .registers))
 
 effect-counted : (x : Call) (c : Command) (vs : List Value) (r s : List ℕ) → Counted x (effect x c vs r s)
@@ -53,7 +53,7 @@ effect-counted x GL vs r s = (refl, refl)
 effect-counted x KQ vs r s = (refl, refl)
 effect-counted x Unknown vs r s = (refl, refl)
 
-counted : (x : Call) → Counted x (answerOf x)
+pub counted : (x : Call) → Counted x (answerOf x)
 unfolding answerOf refused
 counted x = go (firstNo (questions x))
   where

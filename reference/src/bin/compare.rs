@@ -1,44 +1,33 @@
-//! Compares the engine, linked as the static library of the crate `port`, with `handle` and `usable`:
-//! `compare [calls [seed]]`.
+//! Compares the engine, through its wrapper in Rust, with `handle` and `usable`: `compare [calls [seed]]`.
 
 use reference::harness::{self, Engine};
 use reference::{RegisterRow, SlotRow, Supplement};
 
-#[repr(C)]
-#[derive(Clone, Copy)]
-struct Tables {
-    slots: [SlotRow; 8],
-    registers: [RegisterRow; 32],
-    slot_count: usize,
-    register_count: usize,
+use diminurel::{Register, Slot};
+
+const SLOT_BEYOND: Slot = Slot { state: 0xA5, kmcid: [0xA5; 40], fingerprint: [0xA5; 16], tvp: [0xA5; 16] };
+const REGISTER_BEYOND: Register = Register { card: [0xA5; 256] };
+
+/// As many rows as there are; those past the harness's places are of any content.
+fn lent_slots(rows: &[SlotRow], count: usize) -> Vec<Slot> {
+    let lent = |row: &SlotRow| Slot { state: row.state, kmcid: row.kmcid, fingerprint: row.fingerprint, tvp: row.tvp };
+    (0..count).map(|place| rows.get(place).map_or(SLOT_BEYOND, lent)).collect()
 }
 
-#[repr(C)]
-struct Reply {
-    outcome: u8,
-    state: u8,
-    length: usize,
-    tables: Tables,
+fn lent_registers(rows: &[RegisterRow], count: usize) -> Vec<Register> {
+    (0..count).map(|place| rows.get(place).map_or(REGISTER_BEYOND, |row| Register { card: row.card })).collect()
 }
 
-extern "C" {
-    fn diminurel_handle(
-        tables: Tables,
-        supplement: Supplement,
-        request: *const u8,
-        request_length: usize,
-        response: *mut u8,
-        response_length: usize,
-    ) -> Reply;
-    fn diminurel_usable(tables: Tables, register: usize) -> u8;
-}
-
-fn tables(slots: &[SlotRow], registers: &[RegisterRow], slot_count: usize, register_count: usize) -> Tables {
-    Tables {
-        slots: slots.try_into().expect("places for 8 slot rows"),
-        registers: registers.try_into().expect("places for 32 register rows"),
-        slot_count,
-        register_count,
+fn lent_supplement(x: &Supplement) -> diminurel::Supplement {
+    diminurel::Supplement {
+        clock: x.clock,
+        identity: x.identity,
+        identity_length: x.identity_length,
+        request: x.request,
+        request_length: x.request_length,
+        tag: x.tag,
+        check: x.check,
+        passed: x.passed,
     }
 }
 
@@ -55,21 +44,17 @@ impl Engine for Linked {
         request: &[u8],
         response: &mut [u8],
     ) -> (u8, u8, usize) {
-        let tables = tables(slots, registers, slot_count, register_count);
-        // The engine has no precondition; both slices are valid for their lengths.
-        let reply = unsafe {
-            diminurel_handle(
-                tables,
-                *supplement,
-                request.as_ptr(),
-                request.len(),
-                response.as_mut_ptr(),
-                response.len(),
-            )
-        };
-        slots.copy_from_slice(&reply.tables.slots);
-        registers.copy_from_slice(&reply.tables.registers);
-        assert_eq!((reply.tables.slot_count, reply.tables.register_count), (slot_count, register_count));
+        let mut lent = (lent_slots(slots, slot_count), lent_registers(registers, register_count));
+        let reply = diminurel::handle(&mut lent.0, &mut lent.1, &lent_supplement(supplement), request, response);
+        // Rows past the harness's places must be as they were.
+        assert!(lent.0.iter().skip(slots.len()).all(|row| *row == SLOT_BEYOND));
+        assert!(lent.1.iter().skip(registers.len()).all(|row| *row == REGISTER_BEYOND));
+        for (own, row) in slots.iter_mut().zip(&lent.0) {
+            *own = SlotRow { state: row.state, kmcid: row.kmcid, fingerprint: row.fingerprint, tvp: row.tvp };
+        }
+        for (own, row) in registers.iter_mut().zip(&lent.1) {
+            *own = RegisterRow { card: row.card };
+        }
         (reply.outcome, reply.state, reply.length)
     }
 
@@ -81,12 +66,7 @@ impl Engine for Linked {
         register_count: usize,
         register: usize,
     ) -> bool {
-        // The engine has no precondition here either.
-        match unsafe { diminurel_usable(tables(slots, registers, slot_count, register_count), register) } {
-            0 => false,
-            1 => true,
-            other => panic!("usable {register} is {other}, neither yes nor no"),
-        }
+        diminurel::usable(&lent_slots(slots, slot_count), &lent_registers(registers, register_count), register)
     }
 }
 

@@ -1,0 +1,96 @@
+//! A safe wrapper of the two entry points of `include/diminurel.h`: safe for rows, supplements, requests and buffers of any content and any length.
+
+#![no_std]
+
+/// All zero is free; else the state is 1 PENDING, 2 LOADING or 3 IDLE.
+#[repr(C)]
+#[derive(Clone, Copy, PartialEq, Eq, Debug)]
+pub struct Slot {
+    pub state: u8,
+    pub kmcid: [u8; 40],
+    pub fingerprint: [u8; 16],
+    pub tvp: [u8; 16],
+}
+
+/// A stored card with zeros after it; all zero is free.
+#[repr(C)]
+#[derive(Clone, Copy, PartialEq, Eq, Debug)]
+pub struct Register {
+    pub card: [u8; 256],
+}
+
+/// What is handed in beside a request.
+#[repr(C)]
+#[derive(Clone, Copy, Debug)]
+pub struct Supplement {
+    pub clock: [u8; 16],
+    pub identity: [u8; 128],
+    pub identity_length: usize,
+    pub request: [u8; 700],
+    pub request_length: usize,
+    pub tag: [u8; 48],
+    pub check: [u8; 6],
+    pub passed: u8,
+}
+
+/// The outcome (0, or the refusal's number), the slot state that is left (255 where there is none), and the length of the response.
+#[repr(C)]
+#[derive(Clone, Copy, PartialEq, Eq, Debug)]
+pub struct Reply {
+    pub outcome: u8,
+    pub state: u8,
+    pub length: usize,
+}
+
+#[link(name = "diminurel", kind = "static")]
+extern "C" {
+    fn diminurel_handle(
+        slots: *mut Slot,
+        slot_count: usize,
+        registers: *mut Register,
+        register_count: usize,
+        supplement: Supplement,
+        request: *const u8,
+        request_length: usize,
+        response: *mut u8,
+        response_length: usize,
+    ) -> Reply;
+
+    fn diminurel_usable(
+        slots: *const Slot,
+        slot_count: usize,
+        registers: *const Register,
+        register_count: usize,
+        register: usize,
+    ) -> u8;
+}
+
+/// Handles a request.
+pub fn handle(
+    slots: &mut [Slot],
+    registers: &mut [Register],
+    supplement: &Supplement,
+    request: &[u8],
+    response: &mut [u8],
+) -> Reply {
+    // The engine has no precondition but that each slice is valid for its length and none overlaps another that is written, which references are.
+    unsafe {
+        diminurel_handle(
+            slots.as_mut_ptr(),
+            slots.len(),
+            registers.as_mut_ptr(),
+            registers.len(),
+            *supplement,
+            request.as_ptr(),
+            request.len(),
+            response.as_mut_ptr(),
+            response.len(),
+        )
+    }
+}
+
+/// Whether the key in a register, counted from 1, may vend.
+pub fn usable(slots: &[Slot], registers: &[Register], register: usize) -> bool {
+    // As above.
+    unsafe { diminurel_usable(slots.as_ptr(), slots.len(), registers.as_ptr(), registers.len(), register) == 1 }
+}

@@ -1,0 +1,16 @@
+-- steps of walks, of any function
+pub mod Prelude
+pub mod Walk
+pub mod Lends
+pub mod Elements
+-- lists laid over lists
+pub mod Over
+pub mod OverlayLaws
+-- load and store, of any type of rows
+pub mod TableTypes
+pub mod Turns
+pub mod Loads
+pub mod Stores
+-- slots and registers
+pub mod FreeLaws
+pub mod LentTables
