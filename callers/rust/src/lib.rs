@@ -92,5 +92,9 @@ pub fn handle(
 /// Whether the key in a register, counted from 1, may vend.
 pub fn usable(slots: &[Slot], registers: &[Register], register: usize) -> bool {
     // As above.
-    unsafe { diminurel_usable(slots.as_ptr(), slots.len(), registers.as_ptr(), registers.len(), register) == 1 }
+    match unsafe { diminurel_usable(slots.as_ptr(), slots.len(), registers.as_ptr(), registers.len(), register) } {
+        0 => false,
+        1 => true,
+        other => panic!("usable {register} is {other}, neither yes nor no"),
+    }
 }
