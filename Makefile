@@ -1,5 +1,5 @@
 # The commands that README.md names.
-.PHONY: test run vectors compare format
+.PHONY: test run vectors compare fuzz format
 
 # Proves every crate from nothing, tries the must-fail edits, runs the programs and the comparison tests.
 test:
@@ -19,3 +19,7 @@ format:
 # Compares the engine with the second implementation in reference/: make compare N=calls SEED=seed.
 compare:
 	@bash tools/compare/engine.sh $(N) $(SEED)
+
+# Longer runs of random calls alone: make fuzz N=calls SEED=seed. Without a seed each run has another, and prints it.
+fuzz:
+	@bash tools/fuzz.sh "$(N)" "$(SEED)"

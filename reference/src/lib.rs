@@ -5,6 +5,7 @@
 //! Read `engine` first: it asks the eighteen questions of document 01 in order.
 
 pub mod cards;
+pub mod console;
 pub mod crc;
 pub mod demand3;
 pub mod engine;

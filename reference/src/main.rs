@@ -1,7 +1,6 @@
 //! Runs the harness against `handle` itself: `reference [calls [seed]]`.
 
-use reference::harness::{self, Reference};
-use std::time::{SystemTime, UNIX_EPOCH};
+use reference::harness::{self, clock_seed, Reference};
 
 fn main() {
     let mut arguments = std::env::args().skip(1);
@@ -11,8 +10,4 @@ fn main() {
     let counts = harness::run(&mut Reference, calls, seed);
     print!("{counts}");
     println!("{:.1} s", start.elapsed().as_secs_f64());
-}
-
-fn clock_seed() -> u64 {
-    SystemTime::now().duration_since(UNIX_EPOCH).map_or(1, |time| time.as_nanos() as u64)
 }

@@ -4,7 +4,7 @@ use crate::{records::Identity, text};
 
 /// Plain numbers and byte arrays, so that every memory content is a value.
 #[repr(C)]
-#[derive(Clone, Copy)]
+#[derive(Clone, Copy, PartialEq, Eq)]
 pub struct Supplement {
     pub clock: [u8; 16],
     /// The module's own SMID.1 record.

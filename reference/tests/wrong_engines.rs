@@ -1,8 +1,11 @@
 //! Wrong engines, among them the slips that document 01 has "seen in class":
-//! demand 3 or the comparison must find each.
+//! demand 3 or the comparison must find each, and the console script of what is found
+//! must replay it.
 
+use reference::console::{self, row_lines};
 use reference::demand3::{self, Word};
-use reference::harness::{history, requests, try_run, Engine, Reference};
+use reference::harness::tables::Tables;
+use reference::harness::{history, parts, requests, run, scenes, try_run, Bench, Engine, Failure, Reference};
 use reference::rows::{IDLE, LOADING, PENDING};
 use reference::{cards, Command, RegisterRow, SlotRow, Supplement};
 
@@ -39,9 +42,9 @@ impl Call<'_> {
 type Handle = fn(&mut Call) -> Response;
 
 /// `handle`, and whether `usable` lets PENDING vend.
-struct Wrong(Handle, bool);
+struct Wrong<F>(F, bool);
 
-impl Engine for Wrong {
+impl<F: Fn(&mut Call) -> Response> Engine for Wrong<F> {
     fn handle(
         &mut self,
         slots: &mut [SlotRow],
@@ -252,7 +255,7 @@ fn the_comparison_finds_the_rest() {
         assert!(demand_3(engine).is_ok(), "{name}");
         let difference = try_run(&mut Wrong(engine, pending_vends), 300, 7).expect_err(name);
         let start = if pending_vends { "difference after call" } else { "difference in call" };
-        assert!(difference.starts_with(start), "{name}: {difference}");
+        assert!(difference.text.starts_with(start), "{name}: {}", difference.text);
     }
 }
 
@@ -260,4 +263,147 @@ fn the_comparison_finds_the_rest() {
 #[test]
 fn a_list_may_run_backwards() {
     try_run(&mut Wrong(gl_lists_backwards, false), 2000, 7).unwrap();
+}
+
+/// An engine, and what the right one says to its last call or question, as the console prints it: a call's rows too.
+struct Beside<E> {
+    wrong: E,
+    right: String,
+}
+
+impl<E: Engine> Engine for Beside<E> {
+    fn handle(
+        &mut self,
+        slots: &mut [SlotRow],
+        registers: &mut [RegisterRow],
+        slot_count: usize,
+        register_count: usize,
+        supplement: &Supplement,
+        request: &[u8],
+        response: &mut [u8],
+    ) -> Response {
+        let (mut rows, mut keys, mut buffer) = (slots.to_vec(), registers.to_vec(), response.to_vec());
+        let (outcome, state, length) =
+            Reference.handle(&mut rows, &mut keys, slot_count, register_count, supplement, request, &mut buffer);
+        let state = ["FREE", "PENDING", "LOADING", "IDLE"].get(usize::from(state)).unwrap_or(&"-");
+        let text = if length == 0 { "-".into() } else { String::from_utf8_lossy(&buffer[..length - 1]) };
+        let mut tables = Tables::empty(slot_count, register_count);
+        for (row, right) in tables.slots.iter_mut().zip(&rows).take(slot_count) {
+            *row = *right;
+        }
+        for (row, right) in tables.registers.iter_mut().zip(&keys).take(register_count) {
+            *row = *right;
+        }
+        self.right = format!("{outcome} {state} {text}\n{}", row_lines(&tables));
+        self.wrong.handle(slots, registers, slot_count, register_count, supplement, request, response)
+    }
+
+    fn usable(
+        &mut self,
+        slots: &[SlotRow],
+        registers: &[RegisterRow],
+        slot_count: usize,
+        register_count: usize,
+        register: usize,
+    ) -> bool {
+        let right = Reference.usable(slots, registers, slot_count, register_count, register);
+        self.right = if right { "yes\n" } else { "no\n" }.to_string();
+        self.wrong.usable(slots, registers, slot_count, register_count, register)
+    }
+}
+
+/// What a script prints at its end, from the last line with a number, without the number; every line is in form.
+fn replayed(failure: &Failure) -> String {
+    let mut output = Vec::new();
+    console::run(&failure.script[..], &mut output).unwrap();
+    let output = String::from_utf8(output).unwrap();
+    assert!(output.lines().all(|line| !line.ends_with(" ?")), "{output}");
+    let answer = output.lines().rfind(|line| line.starts_with(|first: char| first.is_ascii_digit())).unwrap();
+    let end = &output[output.rfind(answer).unwrap()..];
+    end.split_once(' ').unwrap().1.to_string()
+}
+
+#[test]
+fn a_difference_is_replayed_by_its_script() {
+    for (name, engine, pending_vends) in [
+        ("a bad tag closes the session", bad_tag_closes_the_session as Handle, false),
+        ("a byte past the response", writes_past_its_response, false),
+        ("all refused", refuses_all, false),
+        ("GL lists a slot twice", gl_lists_a_slot_twice, false),
+        ("KX leaves the keys", kx_leaves_keys, false),
+        ("PENDING vends", |call| call.right(), true),
+    ] {
+        let mut beside = Beside { wrong: Wrong(engine, pending_vends), right: String::new() };
+        let failure = try_run(&mut beside, 300, 7).expect_err(name);
+        assert_eq!(replayed(&failure), beside.right, "{name}");
+    }
+}
+
+/// A run prints the script, and writes it to a file beside the program.
+#[test]
+fn a_run_leaves_its_script() {
+    let failure = try_run(&mut Wrong(refuses_all, false), 300, 7).unwrap_err();
+    let stopped = std::panic::catch_unwind(|| run(&mut Wrong(refuses_all, false), 300, 7));
+    assert!(stopped.is_err());
+    let file = std::env::current_exe().unwrap().with_file_name("difference-7.txt");
+    assert_eq!(std::fs::read(&file).unwrap(), failure.script);
+    std::fs::remove_file(&file).unwrap();
+}
+
+/// The script of a difference in a history has all its calls, from empty tables.
+#[test]
+fn a_history_is_replayed_whole() {
+    for (name, engine, pending_vends) in [
+        ("KC wipes keys", kc_wipes_keys as Handle, false),
+        ("a reload takes a second register", reload_takes_a_second_register, false),
+        ("reset leaves LOADING", reset_leaves_loading, false),
+        ("a load stores nothing", stores_nothing, false),
+        ("PENDING vends", |call| call.right(), true),
+    ] {
+        let mut beside = Beside { wrong: Wrong(engine, pending_vends), right: String::new() };
+        let mut bench = Bench::new(&mut beside, 7);
+        let difference = history::compare(&mut bench, 4000, 7).expect_err(name);
+        let failure = bench.failure(difference);
+        let lines: Vec<&[u8]> = failure.script.split(|&byte| byte == b'\n').collect();
+        assert!(lines.iter().filter(|line| line.starts_with(b"raw")).count() > 1, "{name}");
+        assert!(!lines.iter().any(|line| line.starts_with(b"slot") || line.starts_with(b"register")), "{name}");
+        assert_eq!(replayed(&failure), beside.right, "{name}");
+    }
+}
+
+type Part = fn(&mut Bench) -> Result<(), String>;
+
+/// Content in a row beyond the counts, and in a row that no line can name.
+fn rows_beyond(bench: &mut Bench) -> Result<(), String> {
+    let mut tables = scenes::tables();
+    tables.registers[5].card[0] = 1;
+    bench.call(&mut tables, &scenes::supplement(), b"", 1024).map(|_| ())
+}
+
+fn nine_slots(bench: &mut Bench) -> Result<(), String> {
+    let mut tables = scenes::tables();
+    tables.slot_count = 9;
+    tables.slots[8] = tables.slots[0];
+    bench.call(&mut tables, &scenes::supplement(), b"", 1024).map(|_| ())
+}
+
+/// What no console line can say stands in a comment, and the script gives the same answer.
+#[test]
+fn what_no_line_can_say() {
+    for (comment, part, odd) in [
+        ("# Passed is 2;", parts::supplements as Part, (|call| call.supplement.passed == 2) as fn(&Call) -> bool),
+        ("# The length of identity is 129,", parts::supplements, |call| call.supplement.identity_length == 129),
+        ("# The length of loadreq is 701,", parts::supplements, |call| call.supplement.request_length == 701),
+        ("# Each line feed of identity", parts::supplements, |call| call.supplement.identity.contains(&b'\n')),
+        ("# Rows beyond the counts,", rows_beyond, |_| true),
+        ("# Rows beyond the counts,", nine_slots, |_| true),
+    ] {
+        let wrong = Wrong(|call: &mut Call| if odd(call) { (9, 255, 0) } else { call.right() }, false);
+        let mut beside = Beside { wrong, right: String::new() };
+        let mut bench = Bench::new(&mut beside, 7);
+        let difference = part(&mut bench).expect_err(comment);
+        let failure = bench.failure(difference);
+        assert!(String::from_utf8_lossy(&failure.script).contains(comment), "{comment}: {}", failure.text);
+        assert_eq!(replayed(&failure), beside.right, "{comment}");
+    }
 }

@@ -1,4 +1,5 @@
-//! Compares the engine, through its wrapper in Rust, with `handle` and `usable`: `compare [calls [seed]]`.
+//! Compares the engine, through its wrapper in Rust, with `handle` and `usable`: `compare [calls [seed]]`, or
+//! `compare fuzz [calls [seed]]` with the random calls alone and a seed from the clock.
 
 use reference::harness::{self, Engine};
 use reference::{RegisterRow, SlotRow, Supplement};
@@ -71,11 +72,13 @@ impl Engine for Linked {
 }
 
 fn main() {
-    let mut arguments = std::env::args().skip(1);
+    let mut arguments = std::env::args().skip(1).peekable();
+    let fuzz = arguments.next_if(|word| word == "fuzz").is_some();
     let calls = arguments.next().map_or(200_000, |text| text.parse().expect("a number of calls"));
-    let seed = arguments.next().map_or(1, |text| text.parse().expect("a seed"));
+    let unsaid = || if fuzz { harness::clock_seed() } else { 1 };
+    let seed = arguments.next().map_or_else(unsaid, |text| text.parse().expect("a seed"));
     let start = std::time::Instant::now();
-    let counts = harness::run(&mut Linked, calls, seed);
+    let counts = if fuzz { harness::fuzz } else { harness::run }(&mut Linked, calls, seed);
     print!("{counts}");
     println!("{:.1} s", start.elapsed().as_secs_f64());
 }

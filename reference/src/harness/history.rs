@@ -51,7 +51,12 @@ pub fn compare(bench: &mut Bench, calls: u64, seed: u64) -> Result<(), String> {
     let mut made = 0;
     while made < calls {
         let length = (world.generator.between(10, 150) as u64).min(calls - made);
+        let mut begun = false;
         one(&mut world, length, &mut |tables, supplement, request, buffer| {
+            if !begun {
+                bench.begin_history(tables);
+                begun = true;
+            }
             bench.call(tables, supplement, request, buffer)?;
             bench.some_usable(tables)?;
             Ok(bench.answer().to_vec())
@@ -59,6 +64,7 @@ pub fn compare(bench: &mut Bench, calls: u64, seed: u64) -> Result<(), String> {
         bench.counts.histories += 1;
         made += length;
     }
+    bench.end_histories();
     Ok(())
 }
 

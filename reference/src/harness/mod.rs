@@ -5,15 +5,19 @@ pub mod edits;
 pub mod generator;
 pub mod history;
 pub mod parts;
+pub mod random_script;
 pub mod requests;
 pub mod scenes;
+pub mod script;
 pub mod tables;
 pub mod world;
 
 use crate::demand3::{self, Word};
 use crate::{handle, rows, usable, Command, RegisterRow, SlotRow, Supplement};
 use generator::Generator;
+use script::{Call, Replay};
 use std::fmt;
+use std::time::{SystemTime, UNIX_EPOCH};
 use tables::Tables;
 
 /// The state value of an answer without one.
@@ -125,7 +129,9 @@ impl fmt::Display for Counts {
         for (name, calls) in &self.parts {
             writeln!(out, "  {name:<12} {calls:>9}")?;
         }
-        writeln!(out, "  single-byte edits: {} of {}", self.edits.0, self.edits.1)?;
+        if self.edits.1 > 0 {
+            writeln!(out, "  single-byte edits: {} of {}", self.edits.0, self.edits.1)?;
+        }
         writeln!(out, "  histories that demand 3 was checked on: {}", self.histories)?;
         writeln!(out, "accepted {}", self.outcomes[0])?;
         for (command, accepted) in Command::ALL.iter().zip(self.accepted) {
@@ -137,6 +143,13 @@ impl fmt::Display for Counts {
         }
         writeln!(out, "usable\n    yes {:>9}\n     no {:>9}", self.usable[1], self.usable[0])
     }
+}
+
+/// What a run found, and a console script that replays it: empty where no call is to blame.
+#[derive(Debug)]
+pub struct Failure {
+    pub text: String,
+    pub script: Vec<u8>,
 }
 
 /// Longest buffer lent.
@@ -152,6 +165,9 @@ pub struct Bench<'a> {
     got: [u8; LONGEST_BUFFER + GUARD],
     length: usize,
     pub counts: Counts,
+    /// The last call, or the calls of its history.
+    replay: Replay,
+    in_history: bool,
 }
 
 impl<'a> Bench<'a> {
@@ -171,7 +187,43 @@ impl<'a> Bench<'a> {
                 histories: 0,
                 edits: (0, 0),
             },
+            replay: Replay { start: Tables::empty(0, 0), calls: Vec::new(), asked: None },
+            in_history: false,
         }
+    }
+
+    /// The calls from here on are one history, which starts with these rows.
+    pub fn begin_history(&mut self, tables: &Tables) {
+        self.replay = Replay { start: tables.clone(), calls: Vec::new(), asked: None };
+        self.in_history = true;
+    }
+
+    pub fn end_histories(&mut self) {
+        self.in_history = false;
+    }
+
+    /// What went wrong in the last call, or after it.
+    pub fn failure(&self, text: String) -> Failure {
+        let script = self.replay.script(text.lines().next().unwrap_or_default());
+        Failure { text, script }
+    }
+
+    /// Outside of a history each call, and each question of `usable`, stands for itself.
+    fn remember_rows(&mut self, tables: &Tables) {
+        if !self.in_history {
+            self.replay.start.clone_from(tables);
+            self.replay.calls.clear();
+        }
+    }
+
+    fn remember_call(&mut self, tables: &Tables, supplement: &Supplement, request: &[u8], buffer: usize) {
+        self.remember_rows(tables);
+        self.replay.calls.push(Call { supplement: *supplement, request: request.to_vec(), buffer });
+    }
+
+    fn remember_question(&mut self, tables: &Tables, register: usize) {
+        self.remember_rows(tables);
+        self.replay.asked = Some(register);
     }
 
     /// The calls from here on are counted under this name.
@@ -203,6 +255,7 @@ impl<'a> Bench<'a> {
         self.got = self.expected;
         let filling = self.expected;
         let before = tables.clone();
+        self.remember_call(tables, supplement, request, buffer);
 
         let mut after = before.clone();
         let answer = handle(
@@ -305,6 +358,7 @@ impl<'a> Bench<'a> {
             register,
         );
         if expected != got {
+            self.remember_question(tables, register);
             return Err(format!(
                 "difference after call {} of seed {}: usable {register}: expected {expected}, got {got}\n\
                  slot count {}, register count {}, rows\n{}",
@@ -339,6 +393,7 @@ impl<'a> Bench<'a> {
         for register in (0..=count).chain(beyond) {
             let came = self.usable(tables, register)?;
             if came != due(register) {
+                self.remember_question(tables, register);
                 return Err(format!("both engines say {came} to usable {register}\n{}", show_rows(tables)));
             }
         }
@@ -393,43 +448,88 @@ pub fn hex(bytes: &[u8]) -> String {
 }
 
 /// The whole run: the fixed parts, every single-byte edit (a sample of 8 times
-/// `calls` when there are more), then `calls` random ones. A difference is the error.
-pub fn try_run(engine: &mut dyn Engine, calls: u64, seed: u64) -> Result<Counts, String> {
+/// `calls` when there are more), then `calls` random ones. The error is what it found.
+pub fn try_run(engine: &mut dyn Engine, calls: u64, seed: u64) -> Result<Counts, Failure> {
     let mut bench = Bench::new(engine, seed);
-    bench.part("named cases");
-    parts::named_cases(&mut bench)?;
-    bench.part("reading");
-    parts::reading(&mut bench)?;
-    bench.part("row counts");
-    parts::row_counts(&mut bench)?;
-    bench.part("buffers");
-    parts::buffers(&mut bench)?;
-    bench.part("rows");
-    parts::rows(&mut bench)?;
-    bench.part("supplements");
-    parts::supplements(&mut bench)?;
-    bench.part("edits");
-    edits::all(&mut bench, calls.saturating_mul(8), seed)?;
-    bench.part("mixed faults");
-    parts::mixed(&mut bench, calls / 4, seed)?;
-    bench.part("histories");
-    history::compare(&mut bench, calls - calls / 4, seed)?;
+    fixed_parts(&mut bench)
+        .and_then(|()| all_edits(&mut bench, calls.saturating_mul(8)))
+        .and_then(|()| random_parts(&mut bench, calls))
+        .map_err(|text| bench.failure(text))?;
     let missing = bench.counts.missing();
     if missing.is_empty() {
         Ok(bench.counts)
     } else {
-        Err(format!("never came up: {}\n{}", missing.join(", "), bench.counts))
+        Err(Failure { text: format!("never came up: {}\n{}", missing.join(", "), bench.counts), script: Vec::new() })
     }
 }
 
-/// As `try_run`; prints the seed first, and on a difference prints the call and stops.
+/// The random calls alone, for longer runs.
+pub fn try_fuzz(engine: &mut dyn Engine, calls: u64, seed: u64) -> Result<Counts, Failure> {
+    let mut bench = Bench::new(engine, seed);
+    random_parts(&mut bench, calls).map_err(|text| bench.failure(text))?;
+    Ok(bench.counts)
+}
+
+fn fixed_parts(bench: &mut Bench) -> Result<(), String> {
+    bench.part("named cases");
+    parts::named_cases(bench)?;
+    bench.part("reading");
+    parts::reading(bench)?;
+    bench.part("row counts");
+    parts::row_counts(bench)?;
+    bench.part("buffers");
+    parts::buffers(bench)?;
+    bench.part("rows");
+    parts::rows(bench)?;
+    bench.part("supplements");
+    parts::supplements(bench)
+}
+
+fn all_edits(bench: &mut Bench, most: u64) -> Result<(), String> {
+    bench.part("edits");
+    edits::all(bench, most, bench.counts.seed)
+}
+
+fn random_parts(bench: &mut Bench, calls: u64) -> Result<(), String> {
+    let seed = bench.counts.seed;
+    bench.part("mixed faults");
+    parts::mixed(bench, calls / 4, seed)?;
+    bench.part("histories");
+    history::compare(bench, calls - calls / 4, seed)
+}
+
+/// As `try_run`; prints the seed first, and on a difference prints the call and a script that replays it, and stops.
 pub fn run(engine: &mut dyn Engine, calls: u64, seed: u64) -> Counts {
     println!("seed {seed}");
-    match try_run(engine, calls, seed) {
-        Ok(counts) => counts,
-        Err(difference) => {
-            eprintln!("{difference}");
-            panic!("the engines differ");
+    stop_on_failure(try_run(engine, calls, seed), seed)
+}
+
+/// As `run`, with `try_fuzz`.
+pub fn fuzz(engine: &mut dyn Engine, calls: u64, seed: u64) -> Counts {
+    println!("seed {seed}");
+    stop_on_failure(try_fuzz(engine, calls, seed), seed)
+}
+
+/// Another one each time.
+pub fn clock_seed() -> u64 {
+    SystemTime::now().duration_since(UNIX_EPOCH).map_or(1, |time| time.as_nanos() as u64)
+}
+
+fn stop_on_failure(result: Result<Counts, Failure>, seed: u64) -> Counts {
+    let failure = match result {
+        Ok(counts) => return counts,
+        Err(failure) => failure,
+    };
+    eprintln!("{}", failure.text);
+    if !failure.script.is_empty() {
+        // Beside the program, among what is built.
+        let program = std::env::current_exe().unwrap_or_default();
+        let file = program.with_file_name(format!("difference-{seed}.txt"));
+        eprint!("console script that replays it:\n{}", String::from_utf8_lossy(&failure.script));
+        match std::fs::write(&file, &failure.script) {
+            Ok(()) => eprintln!("the script is in {}", file.display()),
+            Err(error) => eprintln!("the script cannot be written to {}: {error}", file.display()),
         }
     }
+    panic!("the engines differ");
 }

@@ -1,0 +1,48 @@
+//! The scripts in `scripts/` print what stands beside them in `.out`, which was checked against document 01.
+
+use reference::console;
+use reference::Command;
+
+const SCRIPTS: [(&str, &[u8], &str); 3] = [
+    ("story", include_bytes!("../../scripts/story.txt"), include_str!("../../scripts/story.out")),
+    ("refusals", include_bytes!("../../scripts/refusals.txt"), include_str!("../../scripts/refusals.out")),
+    ("forms", include_bytes!("../../scripts/forms.txt"), include_str!("../../scripts/forms.out")),
+];
+
+#[test]
+fn each_prints_what_is_expected() {
+    for (name, script, expected) in SCRIPTS {
+        let mut output = Vec::new();
+        console::run(script, &mut output).unwrap();
+        assert_eq!(String::from_utf8(output).unwrap(), expected, "{name}");
+    }
+}
+
+/// The answers of a script: outcome, and the response without status.
+fn answers(output: &str) -> Vec<(usize, &str)> {
+    let words = output.lines().map(|line| line.split(' ').collect::<Vec<_>>());
+    words.filter_map(|words| Some((words.get(1)?.parse().ok()?, *words.get(3)?))).collect()
+}
+
+#[test]
+fn refusals_has_each_refusal_and_each_command_once() {
+    let answers = answers(SCRIPTS[1].2);
+    assert_eq!(answers.len(), 31);
+    for number in 1..=21 {
+        assert_eq!(answers.iter().filter(|(outcome, _)| *outcome == number).count(), 1, "{number}");
+    }
+    for command in Command::ALL {
+        let header = String::from_utf8_lossy(command.header()).replace('?', "!");
+        let accepted = answers.iter().filter(|(outcome, response)| *outcome == 0 && response.starts_with(&header));
+        assert_eq!(accepted.count(), 1, "{header}");
+    }
+}
+
+#[test]
+fn the_story_has_each_command_accepted() {
+    let answers = answers(SCRIPTS[0].2);
+    for command in Command::ALL {
+        let header = String::from_utf8_lossy(command.header()).replace('?', "!");
+        assert!(answers.iter().any(|(outcome, response)| *outcome == 0 && response.starts_with(&header)), "{header}");
+    }
+}

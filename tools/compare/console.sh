@@ -1,0 +1,56 @@
+#!/usr/bin/env bash
+# Compares a console with the second implementation's on scripts: tools/compare/console.sh PROGRAM SCRIPTS..
+# Before diff the fields of SM?GL are sorted, since their sequence is open (reference/src/bin/sort_lists.rs). A line `show`
+# is handed in as a comment, since it is text for people. Without arguments the comparison tries itself.
+set -eu -o pipefail
+top=$(cd "$(dirname "$0")/../.." && pwd)
+(cd "$top/reference" && cargo build --quiet --offline --release --bin console --bin sort_lists)
+export built="$top/reference/target/release"
+work=$(mktemp -d)
+trap 'rm -rf "$work"' EXIT
+
+# What a console prints on a script, sorted.
+printed() { LC_ALL=C sed 's/^show$/#/' "$2" | "$1" | "$built/sort_lists"; }
+
+compare() {
+    local program=$1 script lines=0 answers=0
+    shift
+    for script; do
+        printed "$built/console" "$script" > "$work/expected"
+        printed "$program" "$script" > "$work/got" || { echo "$script: the program failed"; return 1; }
+        diff --text "$work/expected" "$work/got" > "$work/difference" || {
+            echo "$script: expected <, printed >"
+            head -n 20 "$work/difference"
+            return 1
+        }
+        lines=$((lines + $(wc -l < "$script")))
+        answers=$((answers + $(wc -l < "$work/expected")))
+    done
+    echo "$# scripts of $lines lines: $answers lines printed, no difference"
+}
+
+if [ $# -gt 0 ]; then
+    compare "$@"
+    exit
+fi
+
+# A console that pipes the reference's answers through a command, on the repository's scripts.
+changed() {
+    printf '#!/bin/sh\n"$built/console" | %s\n' "$1" > "$work/console"
+    chmod +x "$work/console"
+    compare "$work/console" "$top"/scripts/*.txt
+}
+finds() { if changed "$1" > /dev/null; then echo "console: no difference found with $1"; exit 1; fi; }
+
+changed cat
+# Lists in another sequence, with their checksums, are no difference.
+changed "sed 's/PA~PB~7FFA/PB~PA~8FBE/; s/PNORTH~PSOUTH~DF54/PSOUTH~PNORTH~8F61/'" > /dev/null || { echo "console: a list in another sequence is taken for a difference"; exit 1; }
+finds "sed 's/PA~PB~7FFA/PB~PA~7FFA/'"
+finds "sed 's/PA~PB~7FFA/PA~PA~8FFA/'"
+finds "sed '\$d'"
+finds "sed '\$p'"
+finds "sed 's/ yes\$/ no/'"
+finds "sed 's/ ?\$/ ??/'"
+finds "sed 's/^/ /'"
+finds "{ cat; exit 1; }"
+echo "console: the comparison finds wrong consoles"
