@@ -1,5 +1,5 @@
 # The commands that README.md names.
-.PHONY: test run vectors compare fuzz format
+.PHONY: test run vectors compare fuzz bench format
 
 # Proves every crate from nothing, tries the must-fail edits, runs the programs and the comparison tests.
 test:
@@ -23,3 +23,7 @@ compare:
 # Longer runs of random calls alone: make fuzz N=calls SEED=seed. Without a seed each run has another, and prints it.
 fuzz:
 	@bash tools/fuzz.sh "$(N)" "$(SEED)"
+
+# Prints time, stack and size of the engine beside those of an engine written for speed in bench/.
+bench:
+	@bash tools/bench.sh

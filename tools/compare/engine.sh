@@ -8,6 +8,8 @@ target/example-c | diff callers/c/example.out -
 echo "callers/c: as expected"
 export DIMINUREL_LIB="$PWD/target/staticlib"
 (cd callers/rust && cargo test --quiet --offline --release)
+# The engine written for speed, which `make bench` measures by.
+(cd bench && cargo test --quiet --offline --release --test agrees)
 cd reference
 cargo test --quiet --offline --release
 cargo build --quiet --offline --release --features engine --bin compare

@@ -1,0 +1,3 @@
+//! An engine written for speed, to measure the proved one by.
+
+pub mod fast;
