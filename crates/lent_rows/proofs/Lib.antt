@@ -1,6 +1,4 @@
 -- steps of walks, of any function
-pub mod Prelude
-pub mod Walk
 pub mod Lends
 pub mod Elements
 -- lists laid over lists

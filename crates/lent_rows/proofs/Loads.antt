@@ -3,7 +3,7 @@
 --     loads        so it meets its contract
 -- The slice is looked into once, before the loop. The loop's state is its count i, and the table then has the rows `over .. i`: those from 0 to i are the lent ones. Assumes nothing.
 -- In a step the number of `value`, `look`, `init`, `store`, `forget` or `leave` is a place in the list of what there is (`Start`, `I`): a local takes two, the last local comes first, and what stands before the locals is listed where it changes.
-use Rattle.lent_rows.proofs.Prelude.{_≡_, refl, sym, _∙_, ap, ℕ, suc, _<_, _≤_, _+_, _*_, _^_, min, zero-le, min-le-left, min-le-right, eq-or-lt-of-le, add-one, arith, ⊎-elim, Bool, [], _∷_, List, lit<, length, getD, URA, fullShare, Ty, named, imm, w64, tyInt, tyBool, tyPtr, tyRef, Val, vint, vptr, vbool, SProp, ent, emp, via, fst∗, id⊢, GName, Lft, Share, ftrue, flft, fat, fobor, Memory, Routine, Heap, Env, Wp, WpFn, Tables, afterSeq, afterBlock, afterTurn, atReturn, Atoms, Fun, fact, Given, Item, Sq, runs, anyQ, atRet, ‵, _⊛_, _$_, _∵_, !, qed, move, keep, drop, split, join, rewrite, fsplit, fjoin, suffices, frame, done, whole, sub, look-in, arr-parts, look, look-raw, store, init, forget, stop, hop, fld, from, load, lit, bin, of-opd, addr, and-then, no-more, assigns, assigns-last, land, first, blocks, loops, again, Below, stays, leaves-loop, exec, returns, enter, alloc1, alloc0, params1, pass1, pass0, free0, fmOf, WpFn-mono, owns, Is, shows, shares, pointee, uint-makes, uint-vals, uint-tells, usize, RefT, place-is, row, elem-out, elem-back, looks-slice, shuts-slice, sliceTy, sliceVal, slice-vals, ShrSlice, Room, shr-slice-tells, owned, nothing, onEntry, Meets, tripleOf, Contract, Triple, says, Stays, stay-dropped, walkOf, goes-dropped, Walks, ends-at, walked, walk-meets, yes, Param, shrSliceOf, plain, lt-ltb, le-ltb}
+use Rattle.walks.proofs.Prelude.{_≡_, refl, sym, _∙_, ap, ℕ, suc, _<_, _≤_, _+_, _*_, _^_, min, zero-le, min-le-left, min-le-right, eq-or-lt-of-le, add-one, arith, ⊎-elim, Bool, [], _∷_, List, lit<, length, getD, URA, fullShare, Ty, named, imm, w64, tyInt, tyBool, tyPtr, tyRef, Val, vint, vptr, vbool, SProp, ent, emp, via, fst∗, id⊢, GName, Lft, Share, ftrue, flft, fat, fobor, Memory, Routine, Heap, Env, Wp, WpFn, Tables, afterSeq, afterBlock, afterTurn, atReturn, Atoms, Fun, fact, Given, Item, Sq, runs, anyQ, atRet, ‵, _⊛_, _$_, _∵_, !, qed, move, keep, drop, split, join, rewrite, fsplit, fjoin, suffices, frame, done, whole, sub, look-in, arr-parts, look, look-raw, store, init, forget, stop, hop, fld, from, load, lit, bin, of-opd, addr, and-then, no-more, assigns, assigns-last, land, first, blocks, loops, again, Below, stays, leaves-loop, exec, returns, enter, alloc1, alloc0, params1, pass1, pass0, free0, fmOf, WpFn-mono, owns, Is, shows, shares, pointee, uint-makes, uint-vals, uint-tells, usize, RefT, place-is, row, elem-out, elem-back, looks-slice, shuts-slice, sliceTy, sliceVal, slice-vals, ShrSlice, Room, shr-slice-tells, owned, nothing, onEntry, Meets, tripleOf, Contract, Triple, says, Stays, stay-dropped, walkOf, goes-dropped, Walks, ends-at, walked, walk-meets, yes, Param, shrSliceOf, plain, lt-ltb, le-ltb}
 use types.Kit as Kit
 use types.Part.{store-in}
 use mir.Syntax.{Fn, Name, Body, local, valueLocal, memorySlot, place, copy, int, rvOpd, op2, lt, mul, add, offset, unsigned, addrOf, field, deref, assign, seq, cond, skip, exit, call, block, loop, return, tyArray}
@@ -15,7 +15,7 @@ use denote.Struct.Laws as LL
 use mathlib.Core.List.{_++_}
 use Rattle.lent_rows.specs.Tables.{overlay}
 use Rattle.lent_rows.proofs.Over.{over, as-many, over-all}
-use Rattle.lent_rows.proofs.Walk.{unset, holds, value, calls-plain, leave, leave-room, down, down-wf}
+use Rattle.walks.proofs.Walk.{unset, holds, value, calls-plain, leave, leave-room, down, down-wf}
 use Rattle.lent_rows.proofs.Lends.{Load}
 use Rattle.lent_rows.proofs.Elements.{elem}
 use Rattle.lent_rows.proofs.TableTypes.{RowType, Row, lent, rowTy, rowSize, rowVal, rowVals, tableVal, Filled, TableType, table, tableTy, tableVals, table-tells, table-makes, table-typed, made-vals, made-filled, made-is, filled-long, filled-set, vals-long, vals-set}

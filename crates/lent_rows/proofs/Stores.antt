@@ -3,7 +3,7 @@
 --     stores       so it meets its contract
 -- The slice is opened once, before the loop. The loop's state is its count i, and the lent rows are then `over .. i`: those from 0 to i are the table's. Assumes nothing.
 -- In a step the number of `value`, `look`, `init`, `store`, `forget` or `leave` is a place in the list of what there is (`Start`, `I`): a local takes two, the last local comes first, and what stands before the locals is listed where it changes.
-use Rattle.lent_rows.proofs.Prelude.{_≡_, refl, sym, ap, subst, _∙_, ℕ, suc, _<_, _≤_, _+_, _*_, _^_, min, zero-le, min-le-left, min-le-right, eq-or-lt-of-le, min-comm, add-one, arith, ⊎-elim, Bool, [], _∷_, List, lit<, length, getD, URA, fullShare, Ty, named, mut, w64, tyInt, tyBool, tyPtr, tyRef, tyUnit, Val, vunit, vint, vptr, vbool, SProp, ent, emp, via, fst∗, id⊢, GName, Lft, Share, ftrue, flft, fat, fobor, fobs, fauth, Memory, Routine, Heap, Env, Wp, WpFn, Tables, afterSeq, afterBlock, afterTurn, atReturn, Atoms, Fun, Given, Item, Sq, runs, anyQ, atRet, ‵, _⊛_, _$_, _∵_, !, qed, move, keep, drop, split, join, rewrite, fsplit, fjoin, feqI, suffices, frame, done, whole, sub, look-in, look, store, store-raw, init, forget, stop, hop, fld, from, load, lit, unit-lit, bin, of-opd, and-then, no-more, assigns, assigns-last, land, first, blocks, loops, again, Below, stays, leaves-loop, exec, returns, enter, alloc1, alloc0, params1, pass1, pass0, free0, fmOf, WpFn-mono, owns, Is, shows, pointee, pureI, Held, uint-makes, uint-vals, uint-tells, RefT, place-is, row, elem-out, elem-put, opens-slice, closes-slice, sliceTy, sliceVal, slice-vals, MutSlice, Room, at-slice, heres, codedHoleys, mut-slice-tells, owned, nothing, onEntry, Meets, Triple, says, Stays, stay-slice, stay-dropped, walkOf, goes-slice, goes-dropped, Walks, ends-at, walked, walk-meets, yes, Param, plain, lt-ltb, le-ltb, addr, fact}
+use Rattle.walks.proofs.Prelude.{_≡_, refl, sym, ap, subst, _∙_, ℕ, suc, _<_, _≤_, _+_, _*_, _^_, min, zero-le, min-le-left, min-le-right, eq-or-lt-of-le, min-comm, add-one, arith, ⊎-elim, Bool, [], _∷_, List, lit<, length, getD, URA, fullShare, Ty, named, mut, w64, tyInt, tyBool, tyPtr, tyRef, tyUnit, Val, vunit, vint, vptr, vbool, SProp, ent, emp, via, fst∗, id⊢, GName, Lft, Share, ftrue, flft, fat, fobor, fobs, fauth, Memory, Routine, Heap, Env, Wp, WpFn, Tables, afterSeq, afterBlock, afterTurn, atReturn, Atoms, Fun, Given, Item, Sq, runs, anyQ, atRet, ‵, _⊛_, _$_, _∵_, !, qed, move, keep, drop, split, join, rewrite, fsplit, fjoin, feqI, suffices, frame, done, whole, sub, look-in, look, store, store-raw, init, forget, stop, hop, fld, from, load, lit, unit-lit, bin, of-opd, and-then, no-more, assigns, assigns-last, land, first, blocks, loops, again, Below, stays, leaves-loop, exec, returns, enter, alloc1, alloc0, params1, pass1, pass0, free0, fmOf, WpFn-mono, owns, Is, shows, pointee, pureI, Held, uint-makes, uint-vals, uint-tells, RefT, place-is, row, elem-out, elem-put, opens-slice, closes-slice, sliceTy, sliceVal, slice-vals, MutSlice, Room, at-slice, heres, codedHoleys, mut-slice-tells, owned, nothing, onEntry, Meets, Triple, says, Stays, stay-slice, stay-dropped, walkOf, goes-slice, goes-dropped, Walks, ends-at, walked, walk-meets, yes, Param, plain, lt-ltb, le-ltb, addr, fact}
 use types.Kit as Kit
 use lib.Dec.{T}
 use mir.Syntax.{Fn, opdUnit, Body, local, valueLocal, memorySlot, place, copy, int, rvOpd, op2, lt, mul, add, offset, unsigned, addrOf, field, deref, assign, seq, cond, skip, exit, call, block, loop, return, tyArray}
@@ -14,7 +14,7 @@ use denote.Struct.Laws as LL
 use mathlib.Core.List.{_++_}
 use Rattle.lent_rows.specs.Tables.{overlay}
 use Rattle.lent_rows.proofs.Over.{over, as-many, over-all}
-use Rattle.lent_rows.proofs.Walk.{unset, holds, value, calls-plain, leave, leave-room, down, down-wf}
+use Rattle.walks.proofs.Walk.{unset, holds, value, calls-plain, leave, leave-room, down, down-wf}
 use Rattle.lent_rows.proofs.Lends.{Store}
 use Rattle.lent_rows.proofs.Elements.{elem}
 use Rattle.lent_rows.proofs.TableTypes.{RowType, Row, lent, rowTy, rowSize, rowVal, rowVals, tableVal, Filled, TableType, table, tableTy, tableVals, table-tells, table-typed, table-last, table-silent, table-filled, filled-long, filled-at, vals-long, vals-at}

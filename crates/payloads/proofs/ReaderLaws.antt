@@ -12,21 +12,18 @@ use denote.Enum.Declared.{tagOf}
 use borrow.Author.Tests.{eq-eqb, ne-eqb}
 use Rattle.octets.proofs.Flags.{nope}
 use Rattle.octets.proofs.Below.{below-or}
-use Rattle.fields.specs.Values.{Value, number, string, bad, valuesOf, first, valueAt, nextAt}
+use Rattle.fields.specs.Values.{Value, number, string, date, octets, bad, valuesOf, first, valueAt, nextAt}
 use Rattle.fields.specs.Bounds.{meant}
 use Rattle.fields.specs.declared.Field.{Field}
 use Rattle.fields.specs.declared.Field.the-variants as code
 use Rattle.fields.proofs.Field.{the-type}
-use Rattle.cards.specs.Entries.{between}
-use Rattle.cards.specs.declared.Found.{Found}
-use Rattle.cards.specs.declared.Found.the-variants as found
+use Rattle.payload_reader.specs.Reading.{alone, lastAt}
+use Rattle.payload_reader.proofs.ValueLaws.{values-next, values-ended, values-left}
 use Rattle.commands.specs.declared.Command.the-variants.{RS, KL, KF, KD}
 use Rattle.engine.specs.Requests.{areFieldsOf}
 use Rattle.payloads.specs.Payloads.{textIn, numberIn, firstTextIn, secondTextIn}
-use Rattle.payloads.proofs.ValueLaws.{values-next, next-within, values-ended, values-left}
-use Rattle.payloads.proofs.PayloadLaws.{text-absent, text-present, text-between}
 
--- no field is left exactly where the payload ends
+-- has_no_field: no field is left exactly where the payload ends
 is-empty : (vs : List Value) → vs ≡ [] → areFieldsOf RS vs ≡ true
 unfolding areFieldsOf
 is-empty vs e = rw e
@@ -36,138 +33,132 @@ unfolding areFieldsOf
 not-empty [] o = absurd (o refl)
 not-empty (v ∷ vs) o = refl
 
-module _ (s : List ℕ) (at : ℕ) where
-  nothing-left : length s ≤ at → areFieldsOf RS (valuesOf (drop at s)) ≡ true
-  nothing-left h = is-empty (valuesOf (drop at s)) (values-ended s at h)
-
-  more-left : at < length s → areFieldsOf RS (valuesOf (drop at s)) ≡ false
-  more-left h = not-empty (valuesOf (drop at s)) (values-left s at h)
-
--- has_no_field
 pub by-length : (s : List ℕ) → eqb (length s) 0 ≡ areFieldsOf RS (valuesOf s)
 by-length s =
-    ⊎-elim (λ (h : 0 < length s). ne-eqb (length s) 0 (λ e. omega arith) ∙ sym (more-left s 0 h))
-    (λ (h : length s ≤ 0). eq-eqb (length s) 0 (omega arith) ∙ sym (nothing-left s 0 h))
+    ⊎-elim (λ (h : 0 < length s). ne-eqb (length s) 0 (λ e. omega arith) ∙ sym (not-empty (valuesOf s) (values-left s 0 h)))
+    (λ (h : length s ≤ 0). eq-eqb (length s) 0 (omega arith) ∙ sym (is-empty (valuesOf s) (values-ended s 0 h)))
     (below-or 0 (length s))
 
--- the fields of a command, its first one taken off
-module _ (vs : List Value) where
-  off-text : (v : List ℕ) → areFieldsOf KF (string v ∷ vs) ≡ areFieldsOf RS vs
-  unfolding areFieldsOf
-  off-text v = refl
+-- a list whose only field is v
+sole : (v : Value) (vs : List Value) → v ≡ alone vs → (v ≡ bad → ⊥) → vs ≡ v ∷ []
+sole v [] e o = absurd (o e)
+sole v (w ∷ []) e o = ap (λ (x : Value). x ∷ []) (sym e)
+sole v (w ∷ x ∷ vs) e o = absurd (o e)
 
-  off-number : (n : ℕ) → areFieldsOf KD (number n ∷ vs) ≡ areFieldsOf RS vs
-  unfolding areFieldsOf
-  off-number n = refl
-
-  off-first : (v : List ℕ) → areFieldsOf KL (string v ∷ vs) ≡ areFieldsOf KF vs
-  unfolding areFieldsOf
-  off-first v = refl
-
--- a first field of another type is none of the command
-not-text : (s : List ℕ) (f : Field) (vs : List Value) → meant s f ≡ first vs
-    → (tagOf the-type f ≡ 0) ⊎ ((tagOf the-type f ≡ 2) ⊎ ((tagOf the-type f ≡ 3) ⊎ (tagOf the-type f ≡ 4)))
-    → (areFieldsOf KF vs ≡ false) × (areFieldsOf KL vs ≡ false)
+-- more than one field
+followed : (v w : Value) (vs : List Value) → (areFieldsOf KF (v ∷ w ∷ vs) ≡ false) × (areFieldsOf KD (v ∷ w ∷ vs) ≡ false)
 unfolding areFieldsOf
-not-text s f [] e k = (refl, refl)
-not-text s (code.Number n) (v ∷ vs) e k = rw (← e) (refl, refl)
-not-text s (code.Text a b) (v ∷ vs) e k = absurd (⊎-elim (λ (p : 1 ≡ 0). omega arith) (λ l. ⊎-elim (λ (p : 1 ≡ 2). omega arith) (λ m. ⊎-elim (λ (p : 1 ≡ 3). omega arith) (λ (p : 1 ≡ 4). omega arith) m) l) k)
-not-text s (code.Date a b) (v ∷ vs) e k = rw (← e) (refl, refl)
-not-text s (code.Octets a b) (v ∷ vs) e k = rw (← e) (refl, refl)
-not-text s code.Bad (v ∷ vs) e k = rw (← e) (refl, refl)
+followed (number n) w vs = (refl, refl)
+followed (string v) w vs = (refl, refl)
+followed (date v) w vs = (refl, refl)
+followed (octets v) w vs = (refl, refl)
+followed bad w vs = (refl, refl)
 
-not-number : (s : List ℕ) (f : Field) (vs : List Value) → meant s f ≡ first vs
-    → (tagOf the-type f ≡ 1) ⊎ ((tagOf the-type f ≡ 2) ⊎ ((tagOf the-type f ≡ 3) ⊎ (tagOf the-type f ≡ 4)))
-    → areFieldsOf KD vs ≡ false
-unfolding areFieldsOf
-not-number s f [] e k = refl
-not-number s (code.Number n) (v ∷ vs) e k = absurd (⊎-elim (λ (p : 0 ≡ 1). omega arith) (λ l. ⊎-elim (λ (p : 0 ≡ 2). omega arith) (λ m. ⊎-elim (λ (p : 0 ≡ 3). omega arith) (λ (p : 0 ≡ 4). omega arith) m) l) k)
-not-number s (code.Text a b) (v ∷ vs) e k = rw (← e)
-not-number s (code.Date a b) (v ∷ vs) e k = rw (← e)
-not-number s (code.Octets a b) (v ∷ vs) e k = rw (← e)
-not-number s code.Bad (v ∷ vs) e k = rw (← e)
+-- the tags of a field that is not a string, and of one that is not a number
+abbrev NotText : Field → Type 0
+NotText f = (tagOf the-type f ≡ 0) ⊎ ((tagOf the-type f ≡ 2) ⊎ ((tagOf the-type f ≡ 3) ⊎ (tagOf the-type f ≡ 4)))
 
--- a field that was read, and those after it
-module _ (s : List ℕ) (at : ℕ) (f : Field) (e : meant s f ≡ valueAt s at) (n : ℕ) (p : n ≡ nextAt s at) (v : Value) (q : meant s f ≡ v) (o : v ≡ bad → ⊥) where
-  not-bad : valueAt s at ≡ bad → ⊥
-  not-bad h = o (sym q ∙ e ∙ h)
+abbrev NotNumber : Field → Type 0
+NotNumber f = (tagOf the-type f ≡ 1) ⊎ ((tagOf the-type f ≡ 2) ⊎ ((tagOf the-type f ≡ 3) ⊎ (tagOf the-type f ≡ 4)))
 
-  field-next : valuesOf (drop at s) ≡ v ∷ valuesOf (drop n s)
-  field-next = values-next s at not-bad ∙ rw (← e, ← p, q)
+is-text : (a b : ℕ) → NotText (code.Text a b) → ⊥
+is-text a b k = ⊎-elim (λ (p : 1 ≡ 0). omega arith) (λ l. ⊎-elim (λ (p : 1 ≡ 2). omega arith) (λ m. ⊎-elim (λ (p : 1 ≡ 3). omega arith) (λ (p : 1 ≡ 4). omega arith) m) l) k
 
-  more-after : (n ≡ length s → ⊥) → areFieldsOf RS (valuesOf (drop n s)) ≡ false
-  more-after d =
-      more-left s n
-      (⊎-elim (λ (l : n < length s). l) (λ (l : length s ≤ n). absurd (d (omega (arith, next-within s at not-bad)))) (below-or n (length s)))
+is-number : (n : ℕ) → NotNumber (code.Number n) → ⊥
+is-number n k = ⊎-elim (λ (p : 0 ≡ 1). omega arith) (λ l. ⊎-elim (λ (p : 0 ≡ 2). omega arith) (λ m. ⊎-elim (λ (p : 0 ≡ 3). omega arith) (λ (p : 0 ≡ 4). omega arith) m) l) k
 
--- last_text
-module _ (s : List ℕ) (at : ℕ) (f : Field) (e : meant s f ≡ valueAt s at) where
-  pub no-text : (tagOf the-type f ≡ 0) ⊎ ((tagOf the-type f ≡ 2) ⊎ ((tagOf the-type f ≡ 3) ⊎ (tagOf the-type f ≡ 4))) → none ≡ textIn (valuesOf (drop at s))
-  unfolding valueAt
-  no-text k = rw (not-text s f (valuesOf (drop at s)) e k .0)
+-- an only field, and a first field, of another type
+module _ (s : List ℕ) where
+  not-text : (f : Field) (vs : List Value) → meant s f ≡ alone vs → NotText f → areFieldsOf KF vs ≡ false
+  unfolding areFieldsOf
+  not-text f [] e k = refl
+  not-text f (v ∷ w ∷ vs) e k = followed v w vs .0
+  not-text (code.Number n) (v ∷ []) e k = rw (← e)
+  not-text (code.Text a b) (v ∷ []) e k = absurd (is-text a b k)
+  not-text (code.Date a b) (v ∷ []) e k = rw (← e)
+  not-text (code.Octets a b) (v ∷ []) e k = rw (← e)
+  not-text code.Bad (v ∷ []) e k = rw (← e)
 
-  module _ (a b : ℕ) (q : f ≡ code.Text a b) (n : ℕ) (p : n ≡ nextAt s at) where
-    abbrev content : List ℕ
-    content = take (b - a) (drop a s)
+  not-number : (f : Field) (vs : List Value) → meant s f ≡ alone vs → NotNumber f → areFieldsOf KD vs ≡ false
+  unfolding areFieldsOf
+  not-number f [] e k = refl
+  not-number f (v ∷ w ∷ vs) e k = followed v w vs .1
+  not-number (code.Number n) (v ∷ []) e k = absurd (is-number n k)
+  not-number (code.Text a b) (v ∷ []) e k = rw (← e)
+  not-number (code.Date a b) (v ∷ []) e k = rw (← e)
+  not-number (code.Octets a b) (v ∷ []) e k = rw (← e)
+  not-number code.Bad (v ∷ []) e k = rw (← e)
 
-    text-next : valuesOf (drop at s) ≡ string content ∷ valuesOf (drop n s)
-    text-next = field-next s at f e n p (string content) (rw q) (λ h. nope (cc))
+  not-first : (f : Field) (vs : List Value) → meant s f ≡ first vs → NotText f → areFieldsOf KL vs ≡ false
+  unfolding areFieldsOf
+  not-first f [] e k = refl
+  not-first (code.Number n) (v ∷ vs) e k = rw (← e)
+  not-first (code.Text a b) (v ∷ vs) e k = absurd (is-text a b k)
+  not-first (code.Date a b) (v ∷ vs) e k = rw (← e)
+  not-first (code.Octets a b) (v ∷ vs) e k = rw (← e)
+  not-first code.Bad (v ∷ vs) e k = rw (← e)
 
-    of-text : areFieldsOf KF (valuesOf (drop at s)) ≡ areFieldsOf RS (valuesOf (drop n s))
-    of-text = ap (areFieldsOf KF) text-next ∙ off-text (valuesOf (drop n s)) content
+-- one_text
+module _ (s : List ℕ) (f : Field) (e : meant s f ≡ alone (valuesOf s)) where
+  pub no-text : NotText f → none ≡ textIn (valuesOf s)
+  no-text k = rw (not-text s f (valuesOf s) e k)
 
-    pub text-and-more : (n ≡ length s → ⊥) → none ≡ textIn (valuesOf (drop at s))
-    text-and-more d = rw (of-text, more-after s at f e n p (string content) (rw q) (λ h. nope (cc)) d)
-
-    pub text-alone : n ≡ length s → some content ≡ textIn (valuesOf (drop at s))
-    text-alone d = rw (of-text, nothing-left s n (omega arith), text-next)
+  pub text-alone : (a b : ℕ) → f ≡ code.Text a b → some (take (b - a) (drop a s)) ≡ textIn (valuesOf s)
+  unfolding areFieldsOf
+  text-alone a b q = rw (sole (string (take (b - a) (drop a s))) (valuesOf s) (ap (meant s) (sym q) ∙ e) (λ h. nope (cc)))
 
 -- one_number
-module _ (s : List ℕ) (f : Field) (e : meant s f ≡ valueAt s 0) where
-  pub no-number : (tagOf the-type f ≡ 1) ⊎ ((tagOf the-type f ≡ 2) ⊎ ((tagOf the-type f ≡ 3) ⊎ (tagOf the-type f ≡ 4))) → none ≡ numberIn (valuesOf s)
-  unfolding valueAt
+module _ (s : List ℕ) (f : Field) (e : meant s f ≡ alone (valuesOf s)) where
+  pub no-number : NotNumber f → none ≡ numberIn (valuesOf s)
   no-number k = rw (not-number s f (valuesOf s) e k)
 
-  module _ (m : ℕ) (q : f ≡ code.Number m) (n : ℕ) (p : n ≡ nextAt s 0) where
-    number-next : valuesOf s ≡ number m ∷ valuesOf (drop n s)
-    number-next = field-next s 0 f e n p (number m) (rw q) (λ h. nope (cc))
+  pub number-alone : (n : ℕ) → f ≡ code.Number n → some n ≡ numberIn (valuesOf s)
+  unfolding areFieldsOf
+  number-alone n q = rw (sole (number n) (valuesOf s) (ap (meant s) (sym q) ∙ e) (λ h. nope (cc)))
 
-    of-number : areFieldsOf KD (valuesOf s) ≡ areFieldsOf RS (valuesOf (drop n s))
-    of-number = ap (areFieldsOf KD) number-next ∙ off-number (valuesOf (drop n s)) m
-
-    pub number-and-more : (n ≡ length s → ⊥) → none ≡ numberIn (valuesOf s)
-    number-and-more d = rw (of-number, more-after s 0 f e n p (number m) (rw q) (λ h. nope (cc)) d)
-
-    pub number-alone : n ≡ length s → some m ≡ numberIn (valuesOf s)
-    number-alone d = rw (of-number, nothing-left s n (omega arith), number-next)
-
--- two_texts: g is what follows the first
+-- two_texts
 module _ (s : List ℕ) (f : Field) (e : meant s f ≡ valueAt s 0) where
-  module _ (k : (tagOf the-type f ≡ 0) ⊎ ((tagOf the-type f ≡ 2) ⊎ ((tagOf the-type f ≡ 3) ⊎ (tagOf the-type f ≡ 4)))) where
+  module _ (k : NotText f) where
     pub no-first : none ≡ firstTextIn (valuesOf s)
     unfolding valueAt
-    no-first = rw (not-text s f (valuesOf s) e k .1)
+    no-first = rw (not-first s f (valuesOf s) e k)
 
     pub no-first-second : none ≡ secondTextIn (valuesOf s)
     unfolding valueAt
-    no-first-second = rw (not-text s f (valuesOf s) e k .1)
+    no-first-second = rw (not-first s f (valuesOf s) e k)
 
-  module _ (a b : ℕ) (q : f ≡ code.Text a b) (n : ℕ) (p : n ≡ nextAt s 0) (g : Found) (r : between s g ≡ textIn (valuesOf (drop n s))) where
-    of-rest : areFieldsOf KL (valuesOf s) ≡ areFieldsOf KF (valuesOf (drop n s))
-    of-rest = ap (areFieldsOf KL) (text-next s 0 f e a b q n p) ∙ off-first (valuesOf (drop n s)) (take (b - a) (drop a s))
+  module _ (a b : ℕ) (q : f ≡ code.Text a b) (g : Field) (r : meant s g ≡ lastAt s (nextAt s 0)) where
+    abbrev left : List Value
+    left = valuesOf (drop (nextAt s 0) s)
 
-    pub first-alone : g ≡ found.Nothing → none ≡ firstTextIn (valuesOf s)
-    first-alone h = rw (of-rest, text-absent s (valuesOf (drop n s)) g r h)
+    -- the first, and those after it
+    parted : valuesOf s ≡ string (take (b - a) (drop a s)) ∷ left
+    parted = let p : string (take (b - a) (drop a s)) ≡ valueAt s 0 = ap (meant s) (sym q) ∙ e in values-next s 0 (λ h. nope (cc)) ∙ rw (← p)
 
-    pub first-alone-second : g ≡ found.Nothing → none ≡ secondTextIn (valuesOf s)
-    first-alone-second h = rw (of-rest, text-absent s (valuesOf (drop n s)) g r h)
+    of-rest : areFieldsOf KL (valuesOf s) ≡ areFieldsOf KF left
+    unfolding areFieldsOf
+    of-rest = rw parted
 
-    module _ (c d : ℕ) (h : g ≡ found.At c d) where
-      both-there : areFieldsOf KL (valuesOf s) ≡ true
-      both-there = of-rest ∙ text-present s (valuesOf (drop n s)) g r c d h
+    module _ (k : NotText g) where
+      no-second : areFieldsOf KL (valuesOf s) ≡ false
+      unfolding lastAt
+      no-second = of-rest ∙ not-text s g left r k
+
+      pub first-alone : none ≡ firstTextIn (valuesOf s)
+      first-alone = rw no-second
+
+      pub first-alone-second : none ≡ secondTextIn (valuesOf s)
+      first-alone-second = rw no-second
+
+    module _ (c d : ℕ) (h : g ≡ code.Text c d) where
+      both : valuesOf s ≡ string (take (b - a) (drop a s)) ∷ string (take (d - c) (drop c s)) ∷ []
+      unfolding lastAt
+      both = parted ∙ rw (sole (string (take (d - c) (drop c s))) left (ap (meant s) (sym h) ∙ r) (λ o. nope (cc)))
 
       pub first-of-two : some (take (b - a) (drop a s)) ≡ firstTextIn (valuesOf s)
-      first-of-two = rw (both-there, text-next s 0 f e a b q n p)
+      unfolding areFieldsOf
+      first-of-two = rw both
 
       pub second-of-two : some (take (d - c) (drop c s)) ≡ secondTextIn (valuesOf s)
-      second-of-two = rw (both-there, text-next s 0 f e a b q n p, text-between s (valuesOf (drop n s)) g r c d h)
+      unfolding areFieldsOf
+      second-of-two = rw both

@@ -1,8 +1,9 @@
 // A request's payload as the fields of one command (document 01, "Questions in order", 8): none, one string, one number, or two strings, and nothing over.
+// The fields come from the payload's reader; one of another type than the command lists ends the reading.
 use cards::Found;
 use fields::Field;
 ghost use mathlib.Core.Path.{_≡_};
-ghost use lib.ListN.{length, drop};
+ghost use lib.ListN.{length};
 ghost use Rattle.fields.specs.Values.{valuesOf};
 ghost use Rattle.cards.specs.Entries.{between, Within};
 ghost use Rattle.commands.specs.declared.Command.the-variants.{RS};
@@ -33,42 +34,24 @@ pub fn has_no_field(p: &[u8]) -> bool
     p.len() == 0
 }
 
-// The only field from a place on, a string: its bounds.
-fn last_text(p: &[u8], at: usize) -> Found
-    ensures { λ r. ⌜ between (now (p .entry)) r ≡ textIn (valuesOf (drop at (now (p .entry)))) ⌝ }
-    ensures within { λ r. ⌜ Within (length (now (p .entry))) r ⌝ }
-{
-    let last = fields::read_field(p, at);
-    let field = last.field;
-    let Field::Text { start, end } = field else {
-        return Found::Nothing;
-    };
-    if last.next != p.len() {
-        return Found::Nothing;
-    }
-    Found::At { start, end }
-}
-
 // The only field, a string: its bounds.
 pub fn one_text(p: &[u8]) -> Found
     ensures { λ r. ⌜ between (now (p .entry)) r ≡ textIn (valuesOf (now (p .entry))) ⌝ }
     ensures within { λ r. ⌜ Within (length (now (p .entry))) r ⌝ }
 {
-    last_text(p, 0)
+    let Field::Text { start, end } = payload_reader::only_field(p) else {
+        return Found::Nothing;
+    };
+    Found::At { start, end }
 }
 
 // The only field, a number.
 pub fn one_number(p: &[u8]) -> Count
     ensures { λ r. ⌜ countIn r ≡ numberIn (valuesOf (now (p .entry))) ⌝ }
 {
-    let only = fields::read_field(p, 0);
-    let field = only.field;
-    let Field::Number(n) = field else {
+    let Field::Number(n) = payload_reader::only_field(p) else {
         return Count::Nothing;
     };
-    if only.next != p.len() {
-        return Count::Nothing;
-    }
     Count::Is(n)
 }
 
@@ -78,16 +61,16 @@ pub fn two_texts(p: &[u8]) -> TwoTexts
     ensures second { λ r. ⌜ secondBetween (now (p .entry)) r ≡ secondTextIn (valuesOf (now (p .entry))) ⌝ }
     ensures within { λ r. ⌜ TwoWithin (length (now (p .entry))) r ⌝ }
 {
-    let first = fields::read_field(p, 0);
-    let field = first.field;
-    let Field::Text { start, end } = field else {
+    let two = payload_reader::two_fields(p);
+    let first = two.first;
+    let Field::Text { start, end } = first else {
         return TwoTexts::Nothing;
     };
-    let rest = last_text(p, first.next);
-    let Found::At {
+    let second = two.second;
+    let Field::Text {
         start: from,
         end: to,
-    } = rest
+    } = second
     else {
         return TwoTexts::Nothing;
     };

@@ -1,7 +1,7 @@
 -- `diminurel::diminurel_handle` meets its contract: a walk of its code, by hand. The two slices of rows are opened once. Their rows are lent to the functions that load and store them, and in between the tables are answered by value:
 -- what request and response own goes there, and is not needed afterwards. What is said of the tables is said of the lent rows (`LentLaws.antt`). Assumes nothing.
 -- In a step the number of `value`, `look`, `init`, `store` or `leave` is a place in the list of what there is (`Start`, `After`): a local takes two, the last local comes first, and what stands before the locals is listed where it changes.
-use Rattle.lent_rows.proofs.Prelude.{_≡_, refl, sym, _∙_, ap, subst, ℕ, [], _∷_, List, length, URA, fullShare, Ty, named, erased, imm, mut, w8, tyInt, tyRef, tyUnit, Val, vptr, SProp, ent, emp, via, fst∗, id⊢, GName, Lft, Share, ftrue, flft, fobor, fobs, fauth, Memory, Routine, Heap, Env, WpFn, Tables, Atoms, Fun, fact, factI, givenOf, tables, tablesOf, Given, Item, Sq, runs, atRet, ‵, raw, ⋆, _⊛_, _$_, _∵_, !, qed, move, drop, split, join, use0, use1, group, fsplit, fjoin, feqL, suffices, frame, done, agg, whole, sub, look-in, look, store, init, stop, hop, fld, from, load, addr, of-opd, and-then, no-more, assigns, land, returns, enter, alloc1, alloc0, params1, pass1, pass0, free0, fmOf, WpFn-mono, owns, pureI, Is, pointee, u8, RefT, Held, row, opens-slice, closes-slice, sliceTy, sliceVal, slice-vals, MutSlice, ShrSlice, Room, finally, at-slice, heres, codedHoleys, mut-slice-tells, shr-slice-tells, owned, heard, nothing, Vals, onEntry, Meets, tripleOf, Contract, Triple, entered, cited, Stays, stay-slice, gave-slice, stay-dropped, walkOf, goes-slice, goes-gave-slice, goes-dropped, Walks, ends-at, walked, walk-meets, yes, Param, shrSliceOf, plain}
+use Rattle.walks.proofs.Prelude.{_≡_, refl, sym, _∙_, ap, subst, ℕ, [], _∷_, List, length, URA, fullShare, Ty, named, erased, imm, mut, w8, tyInt, tyRef, tyUnit, Val, vptr, SProp, ent, emp, via, fst∗, id⊢, GName, Lft, Share, ftrue, flft, fobor, fobs, fauth, Memory, Routine, Heap, Env, WpFn, Tables, Atoms, Fun, fact, factI, givenOf, tables, tablesOf, Given, Item, Sq, runs, atRet, ‵, raw, ⋆, _⊛_, _$_, _∵_, !, qed, move, drop, split, join, use0, use1, group, fsplit, fjoin, feqL, suffices, frame, done, agg, whole, sub, look-in, look, store, init, stop, hop, fld, from, load, addr, of-opd, and-then, no-more, assigns, land, returns, enter, alloc1, alloc0, params1, pass1, pass0, free0, fmOf, WpFn-mono, owns, pureI, Is, pointee, u8, RefT, Held, row, opens-slice, closes-slice, sliceTy, sliceVal, slice-vals, MutSlice, ShrSlice, Room, finally, at-slice, heres, codedHoleys, mut-slice-tells, shr-slice-tells, owned, heard, nothing, Vals, onEntry, Meets, tripleOf, Contract, Triple, entered, cited, Stays, stay-slice, gave-slice, stay-dropped, walkOf, goes-slice, goes-gave-slice, goes-dropped, Walks, ends-at, walked, walk-meets, yes, Param, shrSliceOf, plain}
 use denote.Struct.Laws as LL
 use mathlib.Core.List.{_++_}
 use denote.Triple.Clauses.{atExit}
@@ -19,7 +19,7 @@ use Rattle.lent_rows.proofs.SlotTable as slots
 use Rattle.lent_rows.proofs.SlotTable.Laws as slots′
 use Rattle.lent_rows.proofs.RegisterTable as registers
 use Rattle.lent_rows.proofs.RegisterTable.Laws as registers′
-use Rattle.lent_rows.proofs.Walk.{unset, holds, value, calls-on, fact-and, says-all, leave}
+use Rattle.walks.proofs.Walk.{unset, holds, value, calls-on, fact-and, says-all, leave}
 use Rattle.lent_rows.proofs.Lends.{calls-load, calls-store}
 use Rattle.lent_rows.proofs.load_slots as load-slots
 use Rattle.lent_rows.proofs.load_slots.Symbol as load-slots-def

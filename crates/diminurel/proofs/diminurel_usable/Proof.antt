@@ -1,6 +1,6 @@
 -- `diminurel::diminurel_usable` meets its contract: a walk of its code, by hand. The two slices are passed on to the functions that load them, and what is said of the tables is said of the lent rows. Assumes nothing.
 -- In a step the number of `value`, `look`, `init`, `store` or `leave` is a place in the list of what there is (`Start`): a local takes two, the last local comes first, and what stands before the locals is listed where it changes.
-use Rattle.lent_rows.proofs.Prelude.{refl, ap, ℕ, _<_, _^_, [], _∷_, List, length, URA, Ty, named, imm, w8, w64, tyInt, tyRef, Val, vint, SProp, ent, emp, via, fst∗, id⊢, Lft, Share, ftrue, flft, Memory, Routine, Heap, Env, WpFn, Tables, Atoms, Fun, givenOf, tables, tablesOf, Given, Item, Sq, runs, atRet, ‵, _⊛_, _$_, _∵_, !, qed, move, drop, split, join, fsplit, fjoin, suffices, frame, done, look, init, stop, from, and-then, no-more, land, returns, enter, alloc1, alloc0, params1, pass1, pass0, free0, fmOf, WpFn-mono, owns, Is, pointee, uint-makes, uint-vals, uint-tells, u8, usize, RefT, sliceTy, slice-vals, sliceVal, ShrSlice, Room, shr-slice-tells, owned, nothing, Vals, onEntry, Meets, tripleOf, Contract, Triple, entered, cited, says, Stays, stay-dropped, walkOf, goes-dropped, Walks, ends-at, walked, walk-meets, yes, Param, shrSliceOf, plain}
+use Rattle.walks.proofs.Prelude.{refl, ap, ℕ, _<_, _^_, [], _∷_, List, length, URA, Ty, named, imm, w8, w64, tyInt, tyRef, Val, vint, SProp, ent, emp, via, fst∗, id⊢, Lft, Share, ftrue, flft, Memory, Routine, Heap, Env, WpFn, Tables, Atoms, Fun, givenOf, tables, tablesOf, Given, Item, Sq, runs, atRet, ‵, _⊛_, _$_, _∵_, !, qed, move, drop, split, join, fsplit, fjoin, suffices, frame, done, look, init, stop, from, and-then, no-more, land, returns, enter, alloc1, alloc0, params1, pass1, pass0, free0, fmOf, WpFn-mono, owns, Is, pointee, uint-makes, uint-vals, uint-tells, u8, usize, RefT, sliceTy, slice-vals, sliceVal, ShrSlice, Room, shr-slice-tells, owned, nothing, Vals, onEntry, Meets, tripleOf, Contract, Triple, entered, cited, says, Stays, stay-dropped, walkOf, goes-dropped, Walks, ends-at, walked, walk-meets, yes, Param, shrSliceOf, plain}
 use denote.Struct.Laws as LL
 use mathlib.Core.List.{_++_}
 use Rattle.rows.specs.declared.SlotRow.{SlotRow}
@@ -14,7 +14,7 @@ use Rattle.lent_rows.proofs.SlotTable as slots
 use Rattle.lent_rows.proofs.SlotTable.Laws as slots′
 use Rattle.lent_rows.proofs.RegisterTable as registers
 use Rattle.lent_rows.proofs.RegisterTable.Laws as registers′
-use Rattle.lent_rows.proofs.Walk.{unset, holds, value, calls-plain, leave}
+use Rattle.walks.proofs.Walk.{unset, holds, value, calls-plain, leave}
 use Rattle.lent_rows.proofs.Lends.{calls-with}
 use Rattle.lent_rows.proofs.load_slots as load-slots
 use Rattle.lent_rows.proofs.load_slots.Symbol as load-slots-def

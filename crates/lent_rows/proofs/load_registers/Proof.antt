@@ -1,5 +1,5 @@
 -- `lent_rows::load_registers` meets its contract: `Loads.antt` at register rows and tables of 32. Assumes nothing.
-use Rattle.lent_rows.proofs.Prelude.{refl, givenOf, tables, tablesOf, tripleOf, entered, cited}
+use Rattle.walks.proofs.Prelude.{refl, givenOf, tables, tablesOf, tripleOf, entered, cited}
 use Rattle.lent_rows.specs.Tables.{freeRegisters, registerTable}
 use Rattle.lent_rows.proofs.Turns.{PlacedContract}
 use Rattle.lent_rows.proofs.Loads.{FreeContract, loads}

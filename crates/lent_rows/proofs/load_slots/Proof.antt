@@ -1,5 +1,5 @@
 -- `lent_rows::load_slots` meets its contract: `Loads.antt` at slot rows and tables of 8. Assumes nothing.
-use Rattle.lent_rows.proofs.Prelude.{refl, givenOf, tables, tablesOf, tripleOf, entered, cited}
+use Rattle.walks.proofs.Prelude.{refl, givenOf, tables, tablesOf, tripleOf, entered, cited}
 use Rattle.lent_rows.specs.Tables.{freeSlots, slotTable}
 use Rattle.lent_rows.proofs.Turns.{PlacedContract}
 use Rattle.lent_rows.proofs.Loads.{FreeContract, loads}

@@ -1,5 +1,5 @@
 -- `lent_rows::store_registers` meets its contract: `Stores.antt` at register rows and tables of 32. Assumes nothing.
-use Rattle.lent_rows.proofs.Prelude.{givenOf, tables, tablesOf, tripleOf, entered, cited}
+use Rattle.walks.proofs.Prelude.{givenOf, tables, tablesOf, tripleOf, entered, cited}
 use Rattle.lent_rows.proofs.Turns.{PlacedContract}
 use Rattle.lent_rows.proofs.Stores.{stores}
 use Rattle.lent_rows.proofs.LentTables.{register-row, register-table}

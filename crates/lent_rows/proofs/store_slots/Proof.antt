@@ -1,5 +1,5 @@
 -- `lent_rows::store_slots` meets its contract: `Stores.antt` at slot rows and tables of 8. Assumes nothing.
-use Rattle.lent_rows.proofs.Prelude.{givenOf, tables, tablesOf, tripleOf, entered, cited}
+use Rattle.walks.proofs.Prelude.{givenOf, tables, tablesOf, tripleOf, entered, cited}
 use Rattle.lent_rows.proofs.Turns.{PlacedContract}
 use Rattle.lent_rows.proofs.Stores.{stores}
 use Rattle.lent_rows.proofs.LentTables.{slot-row, slot-table}

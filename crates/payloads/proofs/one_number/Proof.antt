@@ -1,5 +1,5 @@
 -- `payloads::one_number` meets its contract, a law a return.
-use Rattle.payloads.proofs.ReaderLaws.{no-number, number-and-more, number-alone}
+use Rattle.payloads.proofs.ReaderLaws.{no-number, number-alone}
 use borrow.Author.Needs.{needs}
 use Rattle.payloads.proofs.one_number.Statement.{statement}
 use Rattle.payloads.proofs.one_number.Tie as tie
@@ -11,5 +11,4 @@ one-number-spec =
     (λ c κs. search needs)
     (λ c. search needs)
     (λ c. search no-number)
-    (λ c. search number-and-more)
     (λ c. search number-alone))

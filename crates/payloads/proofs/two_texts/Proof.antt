@@ -1,7 +1,6 @@
 -- `payloads::two_texts` meets its contract, laws for the first and for the second at each return.
 use Rattle.payloads.proofs.ReaderLaws.{no-first, no-first-second, first-alone, first-alone-second, first-of-two, second-of-two}
 use Rattle.fields.proofs.ReadLaws.{boundCases}
-use Rattle.cards.proofs.EntryLaws.{start-le, end-le}
 use borrow.Author.Needs.{needs}
 use Rattle.payloads.proofs.two_texts.Statement.{statement}
 use Rattle.payloads.proofs.two_texts.Tie as tie
@@ -13,8 +12,6 @@ two-texts-spec =
     (λ c κs. search needs)
     (λ c. search needs)
     (λ c. (search no-first, (search no-first-second, tt)))
-    (λ c κs. search needs)
-    (λ c. search needs)
     (λ c. search needs)
     (λ c. (search first-alone, (search first-alone-second, tt)))
-    (λ c. (search first-of-two, (search second-of-two, ((search boundCases, search boundCases), (search start-le, search end-le))))))
+    (λ c. (search first-of-two, (search second-of-two, ((search boundCases, search boundCases), (search boundCases, search boundCases))))))

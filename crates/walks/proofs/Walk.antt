@@ -1,6 +1,7 @@
 -- Steps that walks by hand share, of any function.
 --     calls-plain      a call of a function that is passed plain data, and whose `ensures` says r ≡ r₀: what it is passed is had for nothing, and once it has returned, r₀'s machine value is there to be stored
---     calls-on         a call of any function: the head of the context gives what it asks. Once it has returned, the tokens are back, and what is said of the last values and the `ensures` stand beside them
+--     calls-own        a call of any function: the head of the context gives what it asks. Once it has returned, what its result owns is there, the tokens are back, and what is said of the last values and the `ensures` stand beside them
+--     calls-on         the same, where what the result owns is not needed
 --     fact-and, says-all    what is had for nothing: a fact and more; and a goal P ∗ Q where Q is, of which P is left
 --     unset, holds     a local that holds nothing, and one that holds a value, as a walk's context has them: two entries each
 --     value            a local's value as an operand
@@ -57,6 +58,23 @@ module _ {M : Type 1} {𝓤 : URA M} {H : Heap 𝓤} {A : Atoms 𝓤} {K : Type 
       (k (subst (λ (us : List Val). Is (typeAt (T .signature .result) (x .0)) r₀ us) p (subst (λ (z : Res (T .signature) (x .0)). Is (typeAt (T .signature .result) (x .0)) z (v ∷ [])) e is)))))))
 
 module _ {M : Type 1} {𝓤 : URA M} {H : Heap 𝓤} {A : Atoms 𝓤} {K : Type 0} {W : Given 𝓤 H A} {Γ : List (Item 𝓤)} {E : Env 𝓤 H} {C : Calls 𝓤 H} {Λ : Loops 𝓤 H} {q : Post 𝓤 H} {f : Name} {xs : List Operand} {d : Place} {rest : Body} where
+  pub calls-own : K → FmC 𝓤 H (W .laws) C → (T : Ended) (c : Clauses 𝓤 T) → Triple 𝓤 (C f) (tripleOf 𝓤 H A (T .signature) (closing 𝓤 H A T c)) → (x : Bound 𝓤 H A (T .signature)) (g : c (x .0) (x .3) .ghost)
+      → {i : Item 𝓤} → ent 𝓤 (mean 𝓤 H A i) (tripleOf 𝓤 H A (T .signature) (closing 𝓤 H A T c) .pre (x, g))
+      → (val : Res (T .signature) (x .0) → Val) → Tells (typeAt (T .signature .result) (x .0)) (Is (typeAt (T .signature .result) (x .0))) (λ r. val r ∷ [])
+      → Opds K W (raw (tripleOf 𝓤 H A (T .signature) (closing 𝓤 H A T c) .pre (x, g)) ∷ Γ) E xs (passed 𝓤 H A (T .signature) x)
+      → ((r : Res (T .signature) (x .0)) (ws : Lasts T (x .0) (x .3)) → Is (typeAt (T .signature .result) (x .0)) r (val r ∷ [])
+      → Seq K W (‵ (typeAt (T .signature .result) (x .0) .own r (val r ∷ [])) ∷ raw (alive 𝓤 H A (T .signature) (x .0) (x .1)) ∷ ‵ (lasts T (x .0) (x .3) ws) ∷ raw (c (x .0) (x .3) .ensures g r (atExit T (x .0) (x .3) ws)) ∷ Γ) (lands C Λ E d (val r) rest q))
+      → Seq K W (i ∷ Γ) (runs C Λ E (seq (call f xs d) rest) q)
+  calls-own t fm T c known x g pre val tells os k =
+      use1 W (raw (tripleOf 𝓤 H A (T .signature) (closing 𝓤 H A T c) .pre (x, g))) pre $
+      calls-at t fm (tripleOf 𝓤 H A (T .signature) (closing 𝓤 H A T c)) known (x, g) os (λ v.
+      use1 W (later (some (λ (r : Res (T .signature) (x .0)). (raw (alive 𝓤 H A (T .signature) (x .0) (x .1)) ⊛ ‵ (typeAt (T .signature .result) (x .0) .own r (v ∷ [])))
+      ⊛ some (λ (ws : Lasts T (x .0) (x .3)). ‵ (lasts T (x .0) (x .3) ws) ⊛ raw (c (x .0) (x .3) .ensures g r (atExit T (x .0) (x .3) ws)))))) (id⊢ 𝓤 _) $ await t tt $ pick t (λ r.
+      split t $ move t (1 ∷ []) $ pick t (λ ws. split t $ move t (2 ∷ []) $ split t $ move t (1 ∷ []) $
+      peeks t (typeAt (T .signature .result) (x .0)) (Is (typeAt (T .signature .result) (x .0))) (shows 𝓤 H A (typeAt (T .signature .result) (x .0))) r (v ∷ []) (λ is.
+      subst (λ (u : Val). Seq K W (‵ (typeAt (T .signature .result) (x .0) .own r (u ∷ [])) ∷ raw (alive 𝓤 H A (T .signature) (x .0) (x .1)) ∷ ‵ (lasts T (x .0) (x .3) ws) ∷ raw (c (x .0) (x .3) .ensures g r (atExit T (x .0) (x .3) ws)) ∷ Γ) (lands C Λ E d u rest q)) (sym (ap only (tells r (v ∷ []) is)))
+      (k r ws (subst (λ (us : List Val). Is (typeAt (T .signature .result) (x .0)) r us) (tells r (v ∷ []) is) is))))))
+
   pub calls-on : K → FmC 𝓤 H (W .laws) C → (T : Ended) (c : Clauses 𝓤 T) → Triple 𝓤 (C f) (tripleOf 𝓤 H A (T .signature) (closing 𝓤 H A T c)) → (x : Bound 𝓤 H A (T .signature)) (g : c (x .0) (x .3) .ghost)
       → {i : Item 𝓤} → ent 𝓤 (mean 𝓤 H A i) (tripleOf 𝓤 H A (T .signature) (closing 𝓤 H A T c) .pre (x, g))
       → (val : Res (T .signature) (x .0) → Val) → Tells (typeAt (T .signature .result) (x .0)) (Is (typeAt (T .signature .result) (x .0))) (λ r. val r ∷ [])
@@ -64,15 +82,7 @@ module _ {M : Type 1} {𝓤 : URA M} {H : Heap 𝓤} {A : Atoms 𝓤} {K : Type 
       → ((r : Res (T .signature) (x .0)) (ws : Lasts T (x .0) (x .3)) → Is (typeAt (T .signature .result) (x .0)) r (val r ∷ [])
       → Seq K W (raw (alive 𝓤 H A (T .signature) (x .0) (x .1)) ∷ ‵ (lasts T (x .0) (x .3) ws) ∷ raw (c (x .0) (x .3) .ensures g r (atExit T (x .0) (x .3) ws)) ∷ Γ) (lands C Λ E d (val r) rest q))
       → Seq K W (i ∷ Γ) (runs C Λ E (seq (call f xs d) rest) q)
-  calls-on t fm T c known x g pre val tells os k =
-      use1 W (raw (tripleOf 𝓤 H A (T .signature) (closing 𝓤 H A T c) .pre (x, g))) pre $
-      calls-at t fm (tripleOf 𝓤 H A (T .signature) (closing 𝓤 H A T c)) known (x, g) os (λ v.
-      use1 W (later (some (λ (r : Res (T .signature) (x .0)). (raw (alive 𝓤 H A (T .signature) (x .0) (x .1)) ⊛ ‵ (typeAt (T .signature .result) (x .0) .own r (v ∷ [])))
-      ⊛ some (λ (ws : Lasts T (x .0) (x .3)). ‵ (lasts T (x .0) (x .3) ws) ⊛ raw (c (x .0) (x .3) .ensures g r (atExit T (x .0) (x .3) ws)))))) (id⊢ 𝓤 _) $ await t tt $ pick t (λ r.
-      split t $ move t (1 ∷ []) $ pick t (λ ws. split t $ move t (2 ∷ []) $ split t $ move t (1 ∷ []) $
-      peeks t (typeAt (T .signature .result) (x .0)) (Is (typeAt (T .signature .result) (x .0))) (shows 𝓤 H A (typeAt (T .signature .result) (x .0))) r (v ∷ []) (λ is. drop t $
-      subst (λ (u : Val). Seq K W (raw (alive 𝓤 H A (T .signature) (x .0) (x .1)) ∷ ‵ (lasts T (x .0) (x .3) ws) ∷ raw (c (x .0) (x .3) .ensures g r (atExit T (x .0) (x .3) ws)) ∷ Γ) (lands C Λ E d u rest q)) (sym (ap only (tells r (v ∷ []) is)))
-      (k r ws (subst (λ (us : List Val). Is (typeAt (T .signature .result) (x .0)) r us) (tells r (v ∷ []) is) is))))))
+  calls-on t fm T c known x g pre val tells os k = calls-own t fm T c known x g pre val tells os (λ r ws is. drop t $ k r ws is)
 
 module _ {M : Type 1} {𝓤 : URA M} {H : Heap 𝓤} {A : Atoms 𝓤} {K : Type 0} {W : Given 𝓤 H A} {Γ : List (Item 𝓤)} where
   pub leave-room : K → (n : ℕ) {τ : Ty} {b : ℕ} {E : Env 𝓤 H} {g : Goal 𝓤 H} → nth 𝓤 H A n Γ ≡ ‵ (froom τ b zero) → nth 𝓤 H A n (del 𝓤 H A n Γ) ≡ ‵ (fdies τ b)

@@ -1,0 +1,5 @@
+pub mod Prelude
+-- steps of any function
+pub mod Walk
+pub mod Loan
+pub mod OneParameter
