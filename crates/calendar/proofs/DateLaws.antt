@@ -22,8 +22,6 @@ module _ (y : ℕ) where
     unfolding isLeap
     other-year o = rw (ne-eqb (y % 400) 0 n, ne-eqb (y % 100) 0 o)
 
-pub ruleset leapCases = (fourth-century, century, other-year)
-
 -- days_in
 module _ (y m : ℕ) where
   pub long-february : m ≡ 2 → (t : Bool) → t ≡ isLeap y → t ≡ true → 29 ≡ daysIn y m
@@ -69,8 +67,6 @@ module _ (d : ℕ) where
         unfolding isDate
         day-of h k e = rw (le-leb 1900 (d / 10000) y, le-leb 1 (d / 100 % 100) m, le-leb (d / 100 % 100) 12 n, le-leb 1 (d % 100) h, e)
 
-pub ruleset dateCases = (old-year, month-zero, month-over, day-zero, day-of)
-
 -- is_time
 module _ (t : ℕ) where
   pub hour-over : 23 < t / 10000 → false ≡ isTime t
@@ -85,5 +81,3 @@ module _ (t : ℕ) where
     pub second-of : t / 100 % 100 ≤ 59 → leb (t % 100) 59 ≡ isTime t
     unfolding isTime
     second-of h = rw (le-leb (t / 10000) 23 p, le-leb (t / 100 % 100) 59 h)
-
-pub ruleset timeCases = (hour-over, minute-over, second-of)

@@ -23,8 +23,7 @@ use Rattle.cards.specs.Entries.{nameOf, valueIn, valueOf, nameBytes, entryBytes
 use Rattle.attributes.specs.Table.{table, name, form}
 use Rattle.stored_cards.specs.Stored.{cardBytes, inRow, isEntryOf, isStoredFrom, isStored}
 use Rattle.attributes.specs.declared.Attribute.{Attribute}
-use Rattle.cards.proofs.EntryLaws.{a-name}
-use Rattle.stored_cards.proofs.WriteLaws.{entry-length}
+use Rattle.cards.proofs.EntryLaws.{a-name, entry-length}
 use Rattle.attributes.proofs.TableLaws.{allRows, at-row, all-rows, name-some}
 
 -- a name that is written is read, holds no semicolon and is text; computed for the table

@@ -5,7 +5,7 @@ use mathlib.Core.List.{List, [], _∷_}
 use mathlib.Core.Option.{Option, none, some}
 use Prim.Native.Nat.{ℕ, _+_, _-_, _*_, _≤_, _<_}
 use native.Mathlib.Omega.{arith}
-use lib.ListN.{length, getD, take, drop, length-drop, drop-of-length-le, List·getD-eq-default}
+use lib.ListN.{length, getD, take, drop, length-append, length-drop, drop-of-length-le, List·getD-eq-default}
 use lib.Seq.{drop-drop, length-take-le}
 use borrow.Author.Tests.{eq-eqb, ne-eqb, not-true, not-false}
 use Rattle.octets.specs.Strings.{run, isNot}
@@ -13,7 +13,7 @@ use Rattle.pieces.specs.Pieces.{pieces}
 use Rattle.pieces.proofs.PieceLaws.{no-piece, next-piece}
 use Rattle.text.specs.Classes.{isOf}
 use Rattle.text.specs.declared.Class.the-variants.{Capital}
-use Rattle.cards.specs.Entries.{nameOf, valueIn, valueOf, between, Within, orElse, valueOr}
+use Rattle.cards.specs.Entries.{nameOf, valueIn, valueOf, between, Within, orElse, valueOr, entryBytes}
 use Rattle.cards.specs.declared.Found.{Found}
 use Rattle.cards.specs.declared.Found.the-variants.{At, Nothing}
 use Rattle.octets.proofs.StringLaws.{drop-take}
@@ -42,8 +42,6 @@ module _ (p : List ℕ) where
         pub named : not h ≡ false → (x y z : ℕ) → x ≡ getD p 0 0 → y ≡ getD p 1 0 → z ≡ getD p 2 0 → x * 65536 + y * 256 + z ≡ nameOf p
         unfolding nameOf
         named o x y z d e k = rw (← a, not-false f i, ← b, not-false g j, ← c, not-false h o, d, e, k)
-
-pub ruleset nameCases = (too-short, no-first, no-second, no-third, named)
 
 -- an entry with a name has three bytes
 pub name-length : (p : List ℕ) → 0 < nameOf p → 3 ≤ length p
@@ -131,3 +129,8 @@ module _ (s t : List ℕ) (name : ℕ) (f : Found) (p : between s f ≡ valueOf 
     pub from-neither : g ≡ Nothing → [] ≡ valueOr name s t
     unfolding valueOr
     from-neither j = rw (← p, i, ← q, j)
+
+-- an entry as it is written
+pub entry-length : (n : ℕ) (v : List ℕ) → length (entryBytes n v) ≡ length v + 4
+unfolding entryBytes
+entry-length n v = simp length-append (omega arith)

@@ -100,8 +100,6 @@ module _ (d : Decision) (t : Tables) (x : Supplement) (vs : List Value) (can : C
       pub clear-fits : k * 256 < 2 ^ 64
       clear-fits = register-fits k clear-can
 
-pub ruleset cans = (reset-can, pend-can, pend-fits, pend-fields, open-can, open-fits, finish-can, finish-fits, load-can, load-fits, load-fields, load-length, delete-can, delete-fits, delete-count, delete-fields, clear-can, clear-fits)
-
 -- tables with other rows
 abbrev tables : Tables → List SlotRow → List RegisterRow → Tables
 tables t slots registers = record { slots = slots; registers = registers; «slot_count» = t .«slot_count»; «register_count» = t .«register_count» }

@@ -31,8 +31,6 @@ module _ (c o : Command) (e : c ≡ o) (vs : List Value) (d : Decision) where
       → (k : Call) → k .slots ≡ l → k .registers ≡ r → k .supplement ≡ x → d ≡ decisionFor k c vs
   arm-load l r x all k h i g = rw e (all k h i g)
 
-pub ruleset arms = (arm-fields, arm-slots, arm-registers, arm-session, arm-load)
-
 -- a header that is none of the ten does not come so far
 pub no-arm : (c o : Command) → c ≡ o → isOneOfTen c ≡ true → isOneOfTen o ≡ false → (k : Call) (vs : List Value) (d : Decision) → d ≡ decisionFor k c vs
 no-arm c o e p q k vs d = nope (cc)

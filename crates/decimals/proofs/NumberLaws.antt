@@ -21,8 +21,6 @@ module _ (v : List ℕ) where
   unfolding isUnpadded
   first-digit o = rw (ne-eqb (length v) 1 o)
 
-pub ruleset unpaddedCases = (one-digit, first-digit)
-
 -- is_number
 module _ (digits low high : ℕ) (v : List ℕ) where
   pub none : length v < 1 → false ≡ isNumber digits low high v
@@ -55,8 +53,6 @@ module _ (digits low high : ℕ) (v : List ℕ) where
         pub in-range : low ≤ x → x ≤ high → true ≡ isNumber digits low high v
         unfolding isNumber
         in-range l o = rw (le-leb 1 (length v) h, le-leb (length v) digits k, ← p, not-false t q, ← m, not-false u n, ← e, le-leb low x l, le-leb x high o)
-
-pub ruleset numberCases = (none, many, not-digits, padded, below, above, in-range)
 
 -- a number in a range is all digits, at most so many, and its value lies in the range
 module _ (digits low high : ℕ) (v : List ℕ) (e : isNumber digits low high v ≡ true) where

@@ -71,5 +71,3 @@ module _ (t : Tables) (x : Supplement) (q : List ℕ) (room : ℕ) (a : Bool) (p
               command-decided i payload same g all =
                   let m : firstNo (messageQuestions q) ≡ none = rw (← u, not-false d k, ← v, not-false e l, its-command, ← z, not-false f i) in
                   command-decides (callIn t x q room) tables-right m g (rw (its-command, ← same) (all (callIn t x q room) refl refl refl))
-
-pub ruleset called = (counts-refused, room-refused, rows-refused, supplement-refused, frame-refused, checksum-refused, header-refused, command-decided)

@@ -21,7 +21,8 @@ use Rattle.engine.specs.declared.Refusal.the-variants.{RowCounts}
 use Rattle.core.proofs.EntryLists.{counted}
 use Rattle.lent_rows.specs.Tables.{overlay, freeSlots, freeRegisters, slotTable, registerTable}
 use Rattle.lent_rows.proofs.OverlayLaws.{overlay-front, overlay-others, overlay-back}
-use Rattle.diminurel.specs.Lent.{called, LentResponded, lentTables, joined}
+use Rattle.answer_numbers.specs.Joined.{joined}
+use Rattle.diminurel.specs.Lent.{called, LentResponded, lentTables}
 
 -- 8 and 32 places
 slot-places : length freeSlots ≡ 8

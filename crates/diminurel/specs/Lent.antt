@@ -1,4 +1,4 @@
--- The call that is made over lent rows, and the tables by value that it is answered with.
+-- The call that is made over lent rows, what is responded to it, and tables of the very rows.
 use Prim.Native.Nat.{ℕ}
 use mathlib.Core.Path.{_≡_}
 use mathlib.Core.List.{List, []}
@@ -8,8 +8,6 @@ use Rattle.rows.specs.declared.SlotRow.{SlotRow}
 use Rattle.rows.specs.declared.RegisterRow.{RegisterRow}
 use Rattle.rows.specs.declared.Supplement.{Supplement}
 use Rattle.rows.specs.declared.Tables.{Tables}
-use Rattle.lent_rows.specs.declared.SlotTable.{SlotTable}
-use Rattle.lent_rows.specs.declared.RegisterTable.{RegisterTable}
 use Rattle.engine.specs.Questions.{Call}
 use Rattle.engine.specs.Answers.{Answer, bufferAfter}
 use Rattle.engine.specs.Words.{callOf}
@@ -28,13 +26,3 @@ LentResponded slots a before n after =
 abbrev pub lentTables : List SlotRow → List RegisterRow → Tables
 lentTables slots registers =
     record { slots = slots; registers = registers; «slot_count» = length slots; «register_count» = length registers }
-
--- the two tables by value as one, and back
-abbrev pub joined : SlotTable → RegisterTable → Tables
-joined s r = record { slots = s .rows; registers = r .rows; «slot_count» = s .count; «register_count» = r .count }
-
-abbrev pub slotsIn : Tables → SlotTable
-slotsIn t = record { rows = t .slots; count = t .«slot_count» }
-
-abbrev pub registersIn : Tables → RegisterTable
-registersIn t = record { rows = t .registers; count = t .«register_count» }

@@ -110,8 +110,6 @@ module _ (s : List ℕ) (k start end : ℕ) where
   unfolding typed
   no-type a b c d = rw (ne-eqb k 78 a, ne-eqb k 80 b, ne-eqb k 68 c, ne-eqb k 72 d)
 
-pub ruleset fieldCases = (of-string, no-string, of-date, no-date, of-octets, no-octets, no-type)
-
 -- next_after
 pub after-field : (f : Field) (at e : ℕ) → (tagOf the-type f ≡ 0) ⊎ ((tagOf the-type f ≡ 1) ⊎ ((tagOf the-type f ≡ 2) ⊎ (tagOf the-type f ≡ 3))) → e + 1 ≡ placeAfter f at e
 after-field (code.Number n) at e k = refl

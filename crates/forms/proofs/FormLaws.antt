@@ -45,8 +45,6 @@ module _ (v : List ℕ) where
       unfolding isAlgorithm
       is-other o p = rw (n, z, ne-eqb (getD v 1 0) 50 o, ne-eqb (getD v 1 0) 52 p)
 
-pub ruleset algorithmCases = (not-two, no-zero-first, is-02, is-04, is-other)
-
 -- in_form: f is the form, r what the callee of its arm said
 module _ (f : Form) (v : List ℕ) (r : Bool) where
   pub timestamp : f ≡ Timestamp → r ≡ isTimestamp v → r ≡ inForm f v
@@ -85,5 +83,3 @@ module _ (f : Form) (v : List ℕ) where
 
   pub empty : f ≡ Empty → eqb (length v) 0 ≡ inForm f v
   empty e = rw e
-
-pub ruleset formCases = (timestamp, algorithm, number, digits, hex, hex-some, name, many-digits, other-digits, other-hex, hex-none, empty)

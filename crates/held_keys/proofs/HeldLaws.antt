@@ -41,10 +41,6 @@ module _ (r : RegisterRow) (t : Bool) (e : t ≡ isVacant r) where
       unfolding isKeyOf attributeOf
       same-group m a q = rw (← e, o, ← p, not-false u m) q
 
-pub ruleset underCases = (vacant-under, filled-under)
-
-pub ruleset keyCases = (vacant-key, other-group, same-group)
-
 -- without_slot
 module _ (s : List ℕ) (r : RegisterRow) (t : Bool) (e : t ≡ isUnder s r) where
   pub row-freed : t ≡ true → (x : RegisterRow) → x ≡ freeRegister → x ≡ withoutSlot s r

@@ -20,8 +20,6 @@ pub a-letter : (n : ℕ) → 10 ≤ n → 55 + n ≡ hexDigit n
 unfolding hexDigit
 a-letter n h = rw (le-ltb n 10 h)
 
-pub ruleset digitCases = (a-figure, a-letter)
-
 -- hex_value
 module _ (b : ℕ) where
   pub below-digits : b < 48 → 16 ≡ hexValue b
@@ -43,8 +41,6 @@ module _ (b : ℕ) where
   pub above : 71 ≤ b → 16 ≡ hexValue b
   unfolding hexValue
   above p = simp (le-ltb b 48 (omega arith), le-ltb b 58 (omega arith), le-ltb b 65 (omega arith), le-ltb b 71 p)
-
-pub ruleset valueCases = (below-digits, at-digits, between, at-letters, above)
 
 -- put_hex4
 pub four-written : {d e f g h : List ℕ} {a i j k l : ℕ} (n w x y z : ℕ) → w ≡ hexDigit (n / 4096) → x ≡ hexDigit (n / 256 % 16) → y ≡ hexDigit (n / 16 % 16) → z ≡ hexDigit (n % 16)
@@ -76,8 +72,6 @@ module _ (a b c d : ℕ) where
         unfolding fromDigits
         a-number h v e = rw (e, lt-ltb a 16 p, lt-ltb b 16 q, lt-ltb c 16 r, lt-ltb d 16 h)
 
-pub ruleset fromCases = (first-over, second-over, third-over, fourth-over, a-number)
-
 -- read_hex4
 module _ (s : List ℕ) (at : ℕ) where
   pub too-short : length s < 4 → Bad ≡ readHex4 s at
@@ -92,5 +86,3 @@ module _ (s : List ℕ) (at : ℕ) where
       → (r : Hex4) → r ≡ fromDigits a b c d → r ≡ readHex4 s at
   unfolding readHex4
   four-read h l a b c d p q u v r e = rw (le-leb (at + 4) (length s) (omega arith), ← p, ← q, ← u, ← v, e)
-
-pub ruleset readCases = (too-short, past-end, four-read)

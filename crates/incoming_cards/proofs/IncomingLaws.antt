@@ -39,8 +39,6 @@ module _ (a : Attribute) (v : List ℕ) where
   unfolding fits
   fits-engine e h r p = rw (e, le-leb 1 (length v) h, p)
 
-pub ruleset fitsCases = (fits-required, fits-optional, fits-empty, fits-engine)
-
 -- fits_name: z is the answer for the whole table
 module _ (n : ℕ) (v : List ℕ) (z : Bool) (k : ℕ) (inv : fitsName (drop k table) n v ≡ z) where
   pub fits-unknown : rows ≤ k → (r : Bool) → r ≡ areAll Value v → r ≡ z
@@ -111,8 +109,6 @@ module _ (a : Attribute) (s : List ℕ) where
     pub met-missing : f ≡ Nothing → false ≡ isMet a s
     unfolding isMet
     met-missing o = rw (e, ← p, o)
-
-pub ruleset metCases = (met-optional, met-engine, met-there, met-missing)
 
 -- has_required: z is the answer for the whole table
 module _ (s : List ℕ) (z : Bool) (k : ℕ) (inv : hasRequired (drop k table) s ≡ z) where

@@ -27,5 +27,3 @@ module _ (d : ℕ) (s : List ℕ) (h : length s ≡ 0 → ⊥) where
 
   pub ended : getD s (length s - 1) 0 ≡ d → true ≡ isEnded d s
   ended e = sym (last-byte d s (omega arith) ∙ eq-eqb (getD s (length s - 1) 0) d e)
-
-pub ruleset endCases = (empty-ended, not-ended, ended)

@@ -67,5 +67,3 @@ module _ (d : ℕ) (kind : List ℕ) (n : ℕ) (s v : List ℕ) (p : v ≡ field
 
           pub a-record : (z ≡ 0 → ⊥) → z - 1 ≡ n → true ≡ isRecord d kind n s
           a-record o r = sym (eq-eqb z (n + 1) (omega arith)) ∙ counted
-
-pub ruleset recordCases = (other-type, bad-sum, bad-end, unprintable, no-type, other-count, a-record)

@@ -15,5 +15,3 @@ module _ (r : RegisterRow) (t : Bool) (e : t ≡ isVacant r) where
   pub filled-sound : t ≡ false → (a : Bool) → a ≡ isStored (r .card) → a ≡ isRegisterSound r
   unfolding isRegisterSound
   filled-sound o a p = rw (← e, o) p
-
-pub ruleset soundCases = (vacant-sound, filled-sound)

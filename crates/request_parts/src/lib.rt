@@ -1,10 +1,10 @@
 // What a command takes out of the payload of a request whose questions are all yeses: its strings, the row that SM?KC makes, and the card that SM?KL stores.
+use card_writer::Stored;
 use cards::Found;
 use payloads::TwoTexts;
 use rows::SlotRow;
 use rows::SlotState;
 use rows::Supplement;
-use stored_cards::Stored;
 ghost use mathlib.Core.Path.{_≡_};
 ghost use mathlib.Core.Bool.{true};
 ghost use Prim.Native.Nat.{_≤_};
@@ -92,5 +92,5 @@ pub fn loaded_card(p: &[u8], x: Supplement) -> Stored
     ensures measured { λ r. ⌜ r .length ≡ length (cardOf x (valuesOf (now (p .entry)))) ⌝ }
 {
     let card = records::field(second_text(p), 124, 2);
-    stored_cards::write_card(card, b"0", &x.check, first_text(p), b"0")
+    card_writer::write_card(card, b"0", &x.check, first_text(p), b"0")
 }

@@ -165,9 +165,6 @@ module _ (d : Decision) (t : Tables) (x : Supplement) (q : List ℕ) (m : ℕ) (
     pub enumerate-count : t .«slot_count» ≤ 8
     enumerate-count = (rw p at h) .1
 
-pub ruleset known =
-    (refuse-room, pend-room, pend-fields, pend-kmcid, pend-request, open-room, open-fields, open-kmcid, load-room, load-fields, load-card, load-place, show-room, show-place, show-fits, enumerate-room, enumerate-count, query-room, query-place, query-fits, query-count)
-
 -- the row at a place, whatever stands beyond the places
 module _ {a b : List ℕ} {n : ℕ} (d : Decision) (t : Tables) (x : Supplement) (q : List ℕ) (k : ℕ) where
   pub show-written : d ≡ Show k → length (t .registers) ≡ 32 → k < 32 → (y : RegisterRow) → Wrote a 0 (responseBytes (headerOf q) accepted (string (storedIn (getD (t .registers) k y)) ∷ [])) b n → Wrote a 0 (responseFor d t x q) b n

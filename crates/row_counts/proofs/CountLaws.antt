@@ -27,8 +27,6 @@ module _ (n m : ℕ) where
       unfolding areCounts
       registers-counted i = sym (rw (le-leb 1 n h, le-leb n 8 k, le-leb 1 m i))
 
-pub ruleset counted = (no-slots, many-slots, no-registers, registers-counted)
-
 -- counts that are in range
 module _ (n m : ℕ) (e : areCounts n m ≡ true) where
   pub slots-few : n ≤ 8

@@ -11,11 +11,10 @@ use Rattle.octets.proofs.Writes.{then, none}
 use Rattle.fields.specs.Values.{string, octets, fieldBytes, payloadBytes}
 use Rattle.rows.specs.Lists.{trimmed}
 use Rattle.rows.specs.Slots.{hasState, kmcidOf}
-use Rattle.rows.specs.Reports.{stateText, slotFields}
+use Rattle.rows.specs.Reports.{stateText}
 use Rattle.rows.specs.declared.SlotRow.{SlotRow}
 use Rattle.rows.specs.declared.SlotState.the-variants.{Pending, Loading}
 use Rattle.rows.proofs.ListLaws.{trimmed-short}
-use Rattle.rows.proofs.FieldLoops.{payload-append}
 
 -- put_kmcid: of a space of 40 bytes
 module _ (k s : List ℕ) (p : s ≡ trimmed k) (a : ℕ) where
@@ -53,21 +52,3 @@ module _ (held : Bool) (t p d f g : List ℕ) (a b c : ℕ) where
   pub key-absent : not held ≡ true → Wrote d a (fieldBytes (string [])) f b → Wrote f b (fieldBytes (octets [])) g c
       → Wrote d a (payloadBytes (string (cond held t []) ∷ octets (cond held p []) ∷ [])) g c
   key-absent o v w = rw (not-true held o) (then v (then w (none g c)))
-
--- put_slot
-pub sixteen : (l : List ℕ) → length l ≡ 16 → length l ≤ 16
-sixteen l e = omega arith
-
-module _ (r : SlotRow) (p : Bool) (e : p ≡ hasState Pending r) (d f g h k : List ℕ) (at a b c x : ℕ) where
-  pub slot-told : Wrote d at (fieldBytes (string (stateText r))) f a → Wrote f a (fieldBytes (string (kmcidOf r))) g b
-      → Wrote g b (payloadBytes (string (cond (not p) [] []) ∷ octets (cond (not p) (r .fingerprint) []) ∷ [])) h c
-      → Wrote h c (payloadBytes (string (cond p (r .tvp) []) ∷ octets (cond p (r .fingerprint) []) ∷ [])) k x
-      → Wrote d at (payloadBytes (slotFields r)) k x
-  unfolding slotFields
-  slot-told u v w y = rw (← e) (then u (then v (go p w y)))
-    where
-      go : (q : Bool) → Wrote g b (payloadBytes (string (cond (not q) [] []) ∷ octets (cond (not q) (r .fingerprint) []) ∷ [])) h c
-          → Wrote h c (payloadBytes (string (cond q (r .tvp) []) ∷ octets (cond q (r .fingerprint) []) ∷ [])) k x
-          → Wrote g b (payloadBytes (string [] ∷ octets (cond q [] (r .fingerprint)) ∷ string (cond q (r .tvp) []) ∷ octets (cond q (r .fingerprint) []) ∷ [])) k x
-      go true s t = rw (payload-append (string [] ∷ octets [] ∷ []) (string (r .tvp) ∷ octets (r .fingerprint) ∷ [])) (then s t)
-      go false s t = rw (payload-append (string [] ∷ octets (r .fingerprint) ∷ []) (string [] ∷ octets [] ∷ [])) (then s t)

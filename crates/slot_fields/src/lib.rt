@@ -1,4 +1,4 @@
-// What is told of one slot, as PTVD fields (001 clauses 6.3.1 and 6.3.2).
+// What is told of one slot, as PTVD fields (001 clauses 6.3.1 and 6.3.2): its identifier, its state, and TVP and fingerprint of a key.
 use rows::SlotRow;
 use rows::SlotState;
 ghost use mathlib.Core.Bool.{cond};
@@ -8,7 +8,7 @@ ghost use lib.ListN.{length};
 ghost use Rattle.octets.specs.Wrote.{Wrote};
 ghost use Rattle.fields.specs.Values.{string, octets, fieldBytes, payloadBytes};
 ghost use Rattle.rows.specs.Slots.{kmcidOf};
-ghost use Rattle.rows.specs.Reports.{stateText, slotFields};
+ghost use Rattle.rows.specs.Reports.{stateText};
 
 // Writes the identifier of a slot, and answers the place after it.
 pub fn put_kmcid(dst: &mut [u8], at: usize, row: SlotRow) -> usize
@@ -21,7 +21,7 @@ pub fn put_kmcid(dst: &mut [u8], at: usize, row: SlotRow) -> usize
 }
 
 // Writes the state, and answers the place after it. An IDLE slot is ACTIVE in the words of 001.
-fn put_state(dst: &mut [u8], at: usize, row: SlotRow) -> usize
+pub fn put_state(dst: &mut [u8], at: usize, row: SlotRow) -> usize
     requires { ⌜ at + 9 ≤ length (now dst) ⌝ }
     ensures { λ r. ⌜ Wrote (now (dst .entry)) at (fieldBytes (string (stateText row))) (now (dst .exit)) r ⌝ }
     ensures short { λ r. ⌜ r ≤ at + 9 ⌝ }
@@ -36,7 +36,7 @@ fn put_state(dst: &mut [u8], at: usize, row: SlotRow) -> usize
 }
 
 // Writes TVP and fingerprint, both empty where the slot does not hold them, and answers the place after them.
-fn put_key(dst: &mut [u8], at: usize, held: bool, tvp: &[u8], fingerprint: &[u8]) -> usize
+pub fn put_key(dst: &mut [u8], at: usize, held: bool, tvp: &[u8], fingerprint: &[u8]) -> usize
     requires { ⌜ (length (now tvp) ≤ 16) × (length (now fingerprint) ≤ 16) × (at + 36 ≤ length (now dst)) ⌝ }
     ensures { λ r. ⌜ Wrote (now (dst .entry)) at (payloadBytes (string (cond held (now (tvp .entry)) []) ∷ octets (cond held (now (fingerprint .entry)) []) ∷ [])) (now (dst .exit)) r ⌝ }
     ensures short { λ r. ⌜ r ≤ at + 36 ⌝ }
@@ -47,19 +47,4 @@ fn put_key(dst: &mut [u8], at: usize, held: bool, tvp: &[u8], fingerprint: &[u8]
     }
     let end = field_writer::put_string(dst, at, tvp);
     field_writer::put_octets(dst, end, fingerprint)
-}
-
-// Writes state and KMCID, the KEK's TVP and fingerprint, and those that a response is awaited for. Answers the place after them.
-pub fn put_slot(dst: &mut [u8], at: usize, row: SlotRow) -> usize
-    requires { ⌜ at + 123 ≤ length (now dst) ⌝ }
-    ensures { λ r. ⌜ Wrote (now (dst .entry)) at (payloadBytes (slotFields row)) (now (dst .exit)) r ⌝ }
-    ensures short { λ r. ⌜ r ≤ at + 123 ⌝ }
-{
-    let fingerprint = row.fingerprint;
-    let tvp = row.tvp;
-    let pending = slot_tests::has_state(row, SlotState::Pending);
-    let a = put_state(dst, at, row);
-    let b = put_kmcid(dst, a, row);
-    let c = put_key(dst, b, !pending, b"", &fingerprint);
-    put_key(dst, c, pending, &tvp, &fingerprint)
 }

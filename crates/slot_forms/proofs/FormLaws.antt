@@ -36,8 +36,6 @@ module _ (p : Bool) (s : List ℕ) (b : Bool) where
   pub with-tvp : not p ≡ false → b ≡ isTimestamp s → b ≡ cond p (isTimestamp s) (areAll Zero s)
   with-tvp o e = rw (not-false p o, e)
 
-pub ruleset tvpCases = (without-tvp, with-tvp)
-
 -- is_filled_slot: the two tests of the KMCID at once
 abbrev kmcidInForm : SlotRow → Bool
 kmcidInForm r = isIdentifier (trimmed (r .kmcid)) && areAll Zero (drop (run (isNot 0) (r .kmcid)) (r .kmcid))
@@ -60,8 +58,6 @@ module _ (r : SlotRow) (k : Bool) (e : k ≡ kmcidInForm r) where
     pub judged-by-tvp : not f ≡ false → (t : Bool) → t ≡ hasState Pending r → (b : Bool) → b ≡ cond t (isTimestamp (r .tvp)) (areAll Zero (r .tvp)) → b ≡ isFilledSlot r
     judged-by-tvp h t q b c = rw (grouped r, ← e, not-false k o, ← p, not-false f h, ← q, c)
 
-pub ruleset filledCases = (no-kmcid, no-fingerprint, judged-by-tvp)
-
 -- is_slot_sound
 module _ (r : SlotRow) (z : Bool) (e : z ≡ isZeroSlot r) where
   pub zero-sound : z ≡ true → true ≡ isSlotSound r
@@ -81,5 +77,3 @@ module _ (r : SlotRow) (z : Bool) (e : z ≡ isZeroSlot r) where
       pub filled-sound : r .state ≤ 3 → (b : Bool) → b ≡ isFilledSlot r → b ≡ isSlotSound r
       unfolding isSlotSound
       filled-sound k b q = rw (← e, o, le-leb 1 (r .state) h, le-leb (r .state) 3 k, q)
-
-pub ruleset soundCases = (zero-sound, free-unsound, no-state, filled-sound)

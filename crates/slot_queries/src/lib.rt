@@ -59,7 +59,7 @@ pub fn reply_query(
 {
     let kmcid = row.kmcid;
     let a = frame_writer::put_head(dst, header, b"00");
-    let b = slot_fields::put_slot(dst, a, row);
+    let b = slot_reports::put_slot(dst, a, row);
     let c = put_registers(dst, b, registers, m, slot_tests::trimmed(&kmcid));
     frame_writer::close_message(dst, c)
 }

@@ -29,5 +29,3 @@ module _ (r : SlotRow) (p : Bool) (e : p ≡ hasState Pending r) where
     pub kept : l ≡ false → r ≡ resetSlot r
     unfolding resetSlot
     kept h = rw (← e, o, ← f, h)
-
-pub ruleset resetCases = (pending-reset, loading-reset, kept)

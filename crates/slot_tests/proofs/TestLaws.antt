@@ -24,5 +24,3 @@ module _ (s : List ℕ) (r : SlotRow) (f : Bool) (e : f ≡ hasState Free r) whe
   pub named : f ≡ false → (v : List ℕ) → v ≡ trimmed (r .kmcid) → (b : Bool) → b ≡ sameBytes v s → b ≡ isNamed s r
   unfolding isNamed
   named o v p b q = rw (← e, o, ← p, q)
-
-pub ruleset namedCases = (free-not-named, named)

@@ -77,5 +77,3 @@ module _ (slots : List SlotRow) (n : ℕ) (registers : List RegisterRow) (m : �
             let g : everyRow (isOwned (take n slots)) (take m registers) ≡ e =
             every-owned (take n slots) sound-slots (take m registers) ∙ ap (λ (l : List (List ℕ)). everyRow (isOwnedBy l) (take m registers)) (sym first-names) ∙ sym f in
             sym (rw (sound-slots, names-judged, not-false b i, sound-registers, keys-judged, not-false d k, g))
-
-pub ruleset soundCases = (slots-unsound, names-alike, registers-unsound, keys-alike, owners-judged)

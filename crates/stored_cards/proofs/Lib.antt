@@ -1,3 +1,1 @@
-pub mod ListLaws
-pub mod WriteLaws
 pub mod StoredLaws

@@ -36,8 +36,6 @@ module _ (x : Supplement) where
     unfolding isIdentityRight
     own-record o r q = rw (le-leb (x .«identity_length») 128 h, ← p, not-false t o) q
 
-pub ruleset identityCases = (long-identity, other-record, own-record)
-
 -- is_load_request_right
 module _ (x : Supplement) where
   pub no-request : x .«request_length» < 1 → false ≡ isLoadRequestRight x
@@ -52,8 +50,6 @@ module _ (x : Supplement) where
     pub request-text : x .«request_length» ≤ 700 → (r : Bool) → r ≡ areAll Text (loadRequest x) → r ≡ isLoadRequestRight x
     unfolding isLoadRequestRight
     request-text h r p = rw (le-leb 1 (x .«request_length») l, le-leb (x .«request_length») 700 h) p
-
-pub ruleset requestCases = (no-request, long-request, request-text)
 
 -- is_well_formed: the last test, a yes or no
 pub neither : (n : ℕ) → 1 < n → false ≡ leb n 1

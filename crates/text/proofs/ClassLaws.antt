@@ -52,8 +52,6 @@ module _ (k : Class) (b : ℕ) where
   pub zero : k ≡ Zero → eqb b 0 ≡ isOf k b
   zero e = rw e
 
-pub ruleset classCases = (digit, capital, text, printable, hex-digit, hex-letter, alphanumeric, mark, value, semicolon, bar, zero)
-
 -- is_alphanumeric
 module _ (b : ℕ) (t : Bool) (p : t ≡ within b 48 57) where
   pub a-digit : t ≡ true → true ≡ isAlphanumeric b
@@ -68,8 +66,6 @@ module _ (b : ℕ) (t : Bool) (p : t ≡ within b 48 57) where
     pub a-small : u ≡ false → (r : Bool) → r ≡ within b 97 122 → r ≡ isAlphanumeric b
     unfolding isAlphanumeric
     a-small o r s = rw (← p, e, ← q, o, s)
-
-pub ruleset alphanumericCases = (a-digit, a-capital, a-small)
 
 -- is_mark
 pub underscore : (b : ℕ) → b ≡ 95 → true ≡ isMark b

@@ -33,8 +33,6 @@ module _ (v : List ℕ) where
       unfolding isIdentifier
       a-name o r q = rw (le-leb 1 (length v) l, le-leb (length v) 40 h, ← p, not-false t o, q)
 
-pub ruleset nameCases = (no-name, long-name, bad-start, a-name)
-
 -- an identifier has 1 to 40 bytes, of the class
 module _ (v : List ℕ) (e : isIdentifier v ≡ true) where
   tail : (leb (length v) 40 && (isAlphanumeric (getD v 0 0) && areAll Identifier v)) ≡ true

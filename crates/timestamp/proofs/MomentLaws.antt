@@ -39,8 +39,6 @@ module _ (date time : List ℕ) (f : Bool) (p : f ≡ areAll Digit date) where
         unfolding momentOf
         a-moment o m z = rw (z, ← p, not-false f q, ← s, not-false g r, ← e, ← h, ← i, not-false x j, ← k, not-false y o)
 
-pub ruleset momentCases = (date-digits, time-digits, no-date, no-time, a-moment)
-
 -- read_timestamp
 module _ (s : List ℕ) where
   pub not-sixteen : (length s ≡ 16 → ⊥) → Bad ≡ timestampOf s
@@ -60,8 +58,6 @@ module _ (s : List ℕ) where
       pub stamp-read : getD s 15 0 ≡ 90 → (m : Moment) → m ≡ momentOf (take 8 s) (take 6 (drop 9 s)) → m ≡ timestampOf s
       unfolding timestampOf
       stamp-read o m e = rw (n, t, o, e)
-
-pub ruleset stampCases = (not-sixteen, no-t, no-z, stamp-read)
 
 -- read_date_time
 module _ (s : List ℕ) where
@@ -83,5 +79,3 @@ module _ (a b : Moment) where
 
   pub compared : (x y : ℕ) → a ≡ At x → b ≡ At y → ltb y x ≡ isLater a b
   compared x y e f = rw (e, f)
-
-pub ruleset laterCases = (first-bad, second-bad, compared)

@@ -153,7 +153,7 @@ fn show_card(s: &[u8]) {
         say(b"  refused (10)\n");
         return;
     }
-    let r = stored_cards::write_card(s, b"0", b"92E101", b"KMC1", b"0");
+    let r = card_writer::write_card(s, b"0", b"92E101", b"KMC1", b"0");
     let n = r.length;
     let card = r.card;
     say(b"  ");

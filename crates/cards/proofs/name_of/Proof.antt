@@ -1,5 +1,5 @@
 -- `cards::name_of` meets its contract, a law a return.
-use Rattle.cards.proofs.EntryLaws.{nameCases}
+use Rattle.cards.proofs.EntryLaws.{too-short, no-first, no-second, no-third, named}
 use borrow.Author.Needs.{needs}
 use Rattle.cards.proofs.name_of.Statement.{statement}
 use Rattle.cards.proofs.name_of.Tie as tie
@@ -8,24 +8,24 @@ pub name-of-spec : {M : Type 1} → statement M
 name-of-spec =
     tie.close
     (tie.spec
-    (λ c. search nameCases)
+    (λ c. search too-short)
     (λ c. search needs)
     (λ c κs. search needs)
-    (λ c. search nameCases)
+    (λ c. search no-first)
     (λ c. search needs)
     (λ c κs. search needs)
-    (λ c. search nameCases)
+    (λ c. search no-second)
     (λ c. search needs)
     (λ c κs. search needs)
-    (λ c. search nameCases)
-    (λ c. search needs)
-    (λ c κs. search needs)
-    (λ c. search needs)
+    (λ c. search no-third)
     (λ c. search needs)
     (λ c κs. search needs)
     (λ c. search needs)
     (λ c. search needs)
+    (λ c κs. search needs)
+    (λ c. search needs)
+    (λ c. search needs)
     (λ c. search needs)
     (λ c κs. search needs)
     (λ c. search needs)
-    (λ c. search nameCases))
+    (λ c. search named))

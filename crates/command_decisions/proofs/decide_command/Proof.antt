@@ -1,5 +1,5 @@
 -- `command_decisions::decide_command` meets its contract, an arm at a time.
-use Rattle.command_decisions.proofs.ArmLaws.{arms, no-arm}
+use Rattle.command_decisions.proofs.ArmLaws.{arm-fields, arm-slots, arm-registers, arm-session, arm-load, no-arm}
 use borrow.Author.Needs.{needs}
 use Rattle.command_decisions.proofs.decide_command.Statement.{statement}
 use Rattle.command_decisions.proofs.decide_command.Tie as tie
@@ -29,14 +29,14 @@ decide-command-spec =
     (λ c. search needs)
     (λ c κs. search needs)
     (λ c. search needs)
-    (λ c. search arms)
-    (λ c. search arms)
-    (λ c. search arms)
-    (λ c. search arms)
-    (λ c. search arms)
-    (λ c. search arms)
-    (λ c. search arms)
-    (λ c. search arms)
-    (λ c. search arms)
-    (λ c. search arms)
+    (λ c. search arm-fields)
+    (λ c. search arm-session)
+    (λ c. search arm-session)
+    (λ c. search arm-load)
+    (λ c. search arm-slots)
+    (λ c. search arm-slots)
+    (λ c. search arm-registers)
+    (λ c. search arm-registers)
+    (λ c. search arm-fields)
+    (λ c. search arm-slots)
     (λ c. search no-arm))

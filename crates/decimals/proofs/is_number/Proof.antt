@@ -1,5 +1,5 @@
 -- `decimals::is_number` meets its contract, a law a return.
-use Rattle.decimals.proofs.NumberLaws.{numberCases}
+use Rattle.decimals.proofs.NumberLaws.{none, many, not-digits, padded, below, above, in-range}
 use borrow.Author.Needs.{needs}
 use Rattle.decimals.proofs.is_number.Statement.{statement}
 use Rattle.decimals.proofs.is_number.Tie as tie
@@ -8,13 +8,13 @@ pub is-number-spec : {M : Type 1} → statement M
 is-number-spec =
     tie.close
     (tie.spec
-    (λ c. search numberCases)
-    (λ c. search numberCases)
+    (λ c. search none)
+    (λ c. search many)
     (λ c κs. search needs)
-    (λ c. search numberCases)
+    (λ c. search not-digits)
     (λ c κs. search needs)
-    (λ c. search numberCases)
+    (λ c. search padded)
     (λ c κs. search needs)
-    (λ c. search numberCases)
-    (λ c. search numberCases)
-    (λ c. search numberCases))
+    (λ c. search below)
+    (λ c. search above)
+    (λ c. search in-range))

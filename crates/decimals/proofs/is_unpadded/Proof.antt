@@ -1,5 +1,5 @@
 -- `decimals::is_unpadded` meets its contract, a law a return.
-use Rattle.decimals.proofs.NumberLaws.{unpaddedCases}
+use Rattle.decimals.proofs.NumberLaws.{one-digit, first-digit}
 use borrow.Author.Needs.{needs}
 use Rattle.decimals.proofs.is_unpadded.Statement.{statement}
 use Rattle.decimals.proofs.is_unpadded.Tie as tie
@@ -8,6 +8,6 @@ pub is-unpadded-spec : {M : Type 1} → statement M
 is-unpadded-spec =
     tie.close
     (tie.spec
-    (λ c. search unpaddedCases)
+    (λ c. search one-digit)
     (λ c. search needs)
-    (λ c. search unpaddedCases))
+    (λ c. search first-digit))

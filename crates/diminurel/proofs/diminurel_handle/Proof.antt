@@ -36,17 +36,17 @@ use Rattle.lent_rows.proofs.store_registers.Met as store-registers-thm
 use Rattle.engine.specs.Answers.{Answer, answerOf}
 use Rattle.engine.specs.Calls.{callIn, Responded, tablesAfter}
 use Rattle.engine.specs.Outcomes.{outcomeNumber}
-use Rattle.diminurel.specs.Numbers.{stateByte}
-use Rattle.diminurel.specs.Lent.{joined, slotsIn, registersIn}
-use Rattle.diminurel.specs.declared.Answered.{Answered}
+use Rattle.answer_numbers.specs.Numbers.{stateByte}
+use Rattle.answer_numbers.specs.Joined.{joined, slotsIn, registersIn}
+use Rattle.answer_numbers.specs.declared.Answered.{Answered}
+use Rattle.answer_numbers.proofs.Reply as reply
+use Rattle.answer_numbers.proofs.Reply.Laws as reply′
+use Rattle.answer_numbers.proofs.Answered as answered
+use Rattle.answer_numbers.proofs.Answered.Laws as answered′
+use Rattle.answer_numbers.proofs.answer as answer
+use Rattle.answer_numbers.proofs.answer.Symbol as answer-def
+use Rattle.answer_numbers.proofs.answer.Met as answer-thm
 use Rattle.diminurel.proofs.LentLaws.{Same, same}
-use Rattle.diminurel.proofs.Reply as reply
-use Rattle.diminurel.proofs.Reply.Laws as reply′
-use Rattle.diminurel.proofs.Answered as answered
-use Rattle.diminurel.proofs.Answered.Laws as answered′
-use Rattle.diminurel.proofs.answer as answer
-use Rattle.diminurel.proofs.answer.Symbol as answer-def
-use Rattle.diminurel.proofs.answer.Met as answer-thm
 use Rattle.diminurel.proofs.diminurel_handle as entry
 use Rattle.diminurel.proofs.diminurel_handle.Key.{name}
 use Rattle.diminurel.proofs.diminurel_handle.Statement as stated
@@ -348,6 +348,6 @@ diminurel-handle-spec 𝓤 H 𝓜 𝓖 𝓡 =
     -- the functions that it calls meet their contracts
     (cited 𝓤 H (LoadSlots 𝓤 H (𝓖 .A) (𝓜 .mem) (𝓡 .run)) 𝓜 𝓡 code.env load-slots-def.name load-slots-def.routine code.calls-lent-rows·load-slots (load-slots-thm.met 𝓤 H 𝓜 𝓖 𝓡))
     (cited 𝓤 H (LoadRegisters 𝓤 H (𝓖 .A) (𝓜 .mem) (𝓡 .run)) 𝓜 𝓡 code.env load-registers-def.name load-registers-def.routine code.calls-lent-rows·load-registers (load-registers-thm.met 𝓤 H 𝓜 𝓖 𝓡))
-    (cited 𝓤 H (Answers 𝓤 H (𝓖 .A) (𝓜 .mem) (𝓡 .run)) 𝓜 𝓡 code.env answer-def.name answer-def.routine code.calls-diminurel·answer (answer-thm.met 𝓤 H 𝓜 𝓖 𝓡))
+    (cited 𝓤 H (Answers 𝓤 H (𝓖 .A) (𝓜 .mem) (𝓡 .run)) 𝓜 𝓡 code.env answer-def.name answer-def.routine code.calls-answer-numbers·answer (answer-thm.met 𝓤 H 𝓜 𝓖 𝓡))
     (cited 𝓤 H (StoreSlots 𝓤 H (𝓖 .A) (𝓜 .mem) (𝓡 .run)) 𝓜 𝓡 code.env store-slots-def.name store-slots-def.routine code.calls-lent-rows·store-slots (store-slots-thm.met 𝓤 H 𝓜 𝓖 𝓡))
     (cited 𝓤 H (StoreRegisters 𝓤 H (𝓖 .A) (𝓜 .mem) (𝓡 .run)) 𝓜 𝓡 code.env store-registers-def.name store-registers-def.routine code.calls-lent-rows·store-registers (store-registers-thm.met 𝓤 H 𝓜 𝓖 𝓡)))

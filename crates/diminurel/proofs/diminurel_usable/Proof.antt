@@ -23,12 +23,12 @@ use Rattle.lent_rows.proofs.load_registers as load-registers
 use Rattle.lent_rows.proofs.load_registers.Symbol as load-registers-def
 use Rattle.lent_rows.proofs.load_registers.Met as load-registers-thm
 use Rattle.engine.specs.Usable.{isUsable}
-use Rattle.diminurel.specs.Numbers.{yesByte}
-use Rattle.diminurel.specs.Lent.{joined}
+use Rattle.answer_numbers.specs.Numbers.{yesByte}
+use Rattle.answer_numbers.specs.Joined.{joined}
+use Rattle.answer_numbers.proofs.usable as usable
+use Rattle.answer_numbers.proofs.usable.Symbol as usable-def
+use Rattle.answer_numbers.proofs.usable.Met as usable-thm
 use Rattle.diminurel.proofs.LentLaws.{same-usable}
-use Rattle.diminurel.proofs.usable as usable
-use Rattle.diminurel.proofs.usable.Symbol as usable-def
-use Rattle.diminurel.proofs.usable.Met as usable-thm
 use Rattle.diminurel.proofs.diminurel_usable as entry
 use Rattle.diminurel.proofs.diminurel_usable.Key.{name}
 use Rattle.diminurel.proofs.diminurel_usable.Statement as stated
@@ -144,4 +144,4 @@ diminurel-usable-spec 𝓤 H 𝓜 𝓖 𝓡 =
     (meets 𝓤 H (𝓖 .A) (𝓜 .mem) (𝓡 .run) (givenOf 𝓤 H 𝓜 𝓖) (tablesOf 𝓤 H 𝓜 (tables 𝓤 H 𝓜 𝓡 code.env))
     (cited 𝓤 H (LoadSlots 𝓤 H (𝓖 .A) (𝓜 .mem) (𝓡 .run)) 𝓜 𝓡 code.env load-slots-def.name load-slots-def.routine code.calls-lent-rows·load-slots (load-slots-thm.met 𝓤 H 𝓜 𝓖 𝓡))
     (cited 𝓤 H (LoadRegisters 𝓤 H (𝓖 .A) (𝓜 .mem) (𝓡 .run)) 𝓜 𝓡 code.env load-registers-def.name load-registers-def.routine code.calls-lent-rows·load-registers (load-registers-thm.met 𝓤 H 𝓜 𝓖 𝓡))
-    (cited 𝓤 H (Usable 𝓤 H (𝓖 .A) (𝓜 .mem) (𝓡 .run)) 𝓜 𝓡 code.env usable-def.name usable-def.routine code.calls-diminurel·usable (usable-thm.met 𝓤 H 𝓜 𝓖 𝓡)))
+    (cited 𝓤 H (Usable 𝓤 H (𝓖 .A) (𝓜 .mem) (𝓡 .run)) 𝓜 𝓡 code.env usable-def.name usable-def.routine code.calls-answer-numbers·usable (usable-thm.met 𝓤 H 𝓜 𝓖 𝓡)))

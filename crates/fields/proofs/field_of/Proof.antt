@@ -1,5 +1,5 @@
 -- `fields::field_of` meets its contract, a law a return.
-use Rattle.fields.proofs.ReadLaws.{fieldCases, of-number, number-within}
+use Rattle.fields.proofs.ReadLaws.{of-string, no-string, of-date, no-date, of-octets, no-octets, no-type, of-number, number-within}
 use borrow.Author.Needs.{needs}
 use Rattle.fields.proofs.field_of.Statement.{statement}
 use Rattle.fields.proofs.field_of.Tie as tie
@@ -14,12 +14,12 @@ field-of-spec =
     (λ c κs. search needs)
     (λ c. (search of-number, search number-within))
     (λ c κs. search needs)
-    (λ c. (search fieldCases, search needs))
-    (λ c. (search fieldCases, tt))
+    (λ c. (search of-string, search needs))
+    (λ c. (search no-string, tt))
     (λ c κs. search needs)
-    (λ c. (search fieldCases, search needs))
-    (λ c. (search fieldCases, tt))
+    (λ c. (search of-date, search needs))
+    (λ c. (search no-date, tt))
     (λ c κs. search needs)
-    (λ c. (search fieldCases, search needs))
-    (λ c. (search fieldCases, tt))
-    (λ c. (search fieldCases, tt)))
+    (λ c. (search of-octets, search needs))
+    (λ c. (search no-octets, tt))
+    (λ c. (search no-type, tt)))

@@ -1,5 +1,5 @@
 -- `held_keys::is_under` meets its contract, a law a return.
-use Rattle.held_keys.proofs.HeldLaws.{underCases}
+use Rattle.held_keys.proofs.HeldLaws.{vacant-under, filled-under}
 use borrow.Author.Needs.{needs}
 use Rattle.held_keys.proofs.is_under.Statement.{statement}
 use Rattle.held_keys.proofs.is_under.Tie as tie
@@ -9,6 +9,6 @@ is-under-spec =
     tie.close
     (tie.spec
     (λ c κs. search needs)
-    (λ c. search underCases)
+    (λ c. search vacant-under)
     (λ c κs. search needs)
-    (λ c. search underCases))
+    (λ c. search filled-under))

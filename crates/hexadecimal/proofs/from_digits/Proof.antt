@@ -1,5 +1,5 @@
 -- `hexadecimal::from_digits` meets its contract, a law a return.
-use Rattle.hexadecimal.proofs.HexLaws.{fromCases}
+use Rattle.hexadecimal.proofs.HexLaws.{first-over, second-over, third-over, fourth-over, a-number}
 use borrow.Author.Needs.{needs}
 use Rattle.hexadecimal.proofs.from_digits.Statement.{statement}
 use Rattle.hexadecimal.proofs.from_digits.Tie as tie
@@ -8,14 +8,14 @@ pub from-digits-spec : {M : Type 1} → statement M
 from-digits-spec =
     tie.close
     (tie.spec
-    (λ c. search fromCases)
-    (λ c. search fromCases)
-    (λ c. search fromCases)
-    (λ c. search fromCases)
+    (λ c. search first-over)
+    (λ c. search second-over)
+    (λ c. search third-over)
+    (λ c. search fourth-over)
     (λ c. search needs)
     (λ c. search needs)
     (λ c. search needs)
     (λ c. search needs)
     (λ c. search needs)
     (λ c. search needs)
-    (λ c. search fromCases))
+    (λ c. search a-number))

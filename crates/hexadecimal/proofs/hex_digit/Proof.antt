@@ -1,5 +1,5 @@
 -- `hexadecimal::hex_digit` meets its contract, a law a return.
-use Rattle.hexadecimal.proofs.HexLaws.{digitCases}
+use Rattle.hexadecimal.proofs.HexLaws.{a-figure, a-letter}
 use borrow.Author.Needs.{needs}
 use Rattle.hexadecimal.proofs.hex_digit.Statement.{statement}
 use Rattle.hexadecimal.proofs.hex_digit.Tie as tie
@@ -12,5 +12,5 @@ hex-digit-spec =
     (λ c. search needs)
     (λ c. search needs)
     (λ c. search needs)
-    (λ c. search digitCases)
-    (λ c. search digitCases))
+    (λ c. search a-figure)
+    (λ c. search a-letter))

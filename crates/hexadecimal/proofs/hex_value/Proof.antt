@@ -1,5 +1,5 @@
 -- `hexadecimal::hex_value` meets its contract, a law a return.
-use Rattle.hexadecimal.proofs.HexLaws.{valueCases}
+use Rattle.hexadecimal.proofs.HexLaws.{below-digits, at-digits, between, at-letters, above}
 use borrow.Author.Needs.{needs}
 use Rattle.hexadecimal.proofs.hex_value.Statement.{statement}
 use Rattle.hexadecimal.proofs.hex_value.Tie as tie
@@ -8,11 +8,11 @@ pub hex-value-spec : {M : Type 1} → statement M
 hex-value-spec =
     tie.close
     (tie.spec
-    (λ c. search valueCases)
+    (λ c. search below-digits)
     (λ c. search needs)
-    (λ c. search valueCases)
-    (λ c. search valueCases)
+    (λ c. search at-digits)
+    (λ c. search between)
     (λ c. search needs)
     (λ c. search needs)
-    (λ c. search valueCases)
-    (λ c. search valueCases))
+    (λ c. search at-letters)
+    (λ c. search above))

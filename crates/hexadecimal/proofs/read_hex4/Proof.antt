@@ -1,5 +1,5 @@
 -- `hexadecimal::read_hex4` meets its contract, a law a return.
-use Rattle.hexadecimal.proofs.HexLaws.{readCases}
+use Rattle.hexadecimal.proofs.HexLaws.{too-short, past-end, four-read}
 use borrow.Author.Needs.{needs}
 use Rattle.hexadecimal.proofs.read_hex4.Statement.{statement}
 use Rattle.hexadecimal.proofs.read_hex4.Tie as tie
@@ -8,12 +8,9 @@ pub read-hex4-spec : {M : Type 1} → statement M
 read-hex4-spec =
     tie.close
     (tie.spec
-    (λ c. search readCases)
+    (λ c. search too-short)
     (λ c. search needs)
-    (λ c. search readCases)
-    (λ c. search needs)
-    (λ c κs. search needs)
-    (λ c. search needs)
+    (λ c. search past-end)
     (λ c. search needs)
     (λ c κs. search needs)
     (λ c. search needs)
@@ -22,5 +19,8 @@ read-hex4-spec =
     (λ c. search needs)
     (λ c. search needs)
     (λ c κs. search needs)
+    (λ c. search needs)
+    (λ c. search needs)
     (λ c κs. search needs)
-    (λ c. search readCases))
+    (λ c κs. search needs)
+    (λ c. search four-read))

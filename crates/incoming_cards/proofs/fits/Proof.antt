@@ -1,5 +1,5 @@
 -- `incoming_cards::fits` meets its contract, a law a return.
-use Rattle.incoming_cards.proofs.IncomingLaws.{fitsCases}
+use Rattle.incoming_cards.proofs.IncomingLaws.{fits-required, fits-optional, fits-empty, fits-engine}
 use borrow.Author.Needs.{needs}
 use Rattle.incoming_cards.proofs.fits.Statement.{statement}
 use Rattle.incoming_cards.proofs.fits.Tie as tie
@@ -13,8 +13,8 @@ fits-spec =
     (λ c. search needs)
     (λ c κs. search needs)
     (λ c. search needs)
-    (λ c. search fitsCases)
+    (λ c. search fits-empty)
     (λ c κs. search needs)
-    (λ c. search fitsCases)
-    (λ c. search fitsCases)
-    (λ c. search fitsCases))
+    (λ c. search fits-required)
+    (λ c. search fits-optional)
+    (λ c. search fits-engine))

@@ -1,5 +1,5 @@
 -- `incoming_cards::is_met` meets its contract, a law a return.
-use Rattle.incoming_cards.proofs.IncomingLaws.{metCases}
+use Rattle.incoming_cards.proofs.IncomingLaws.{met-optional, met-engine, met-there, met-missing}
 use borrow.Author.Needs.{needs}
 use Rattle.incoming_cards.proofs.is_met.Statement.{statement}
 use Rattle.incoming_cards.proofs.is_met.Tie as tie
@@ -14,7 +14,7 @@ is-met-spec =
     (λ c. search needs)
     (λ c. search needs)
     (λ c. search needs)
-    (λ c. search metCases)
-    (λ c. search metCases)
-    (λ c. search metCases)
-    (λ c. search metCases))
+    (λ c. search met-there)
+    (λ c. search met-missing)
+    (λ c. search met-optional)
+    (λ c. search met-engine))

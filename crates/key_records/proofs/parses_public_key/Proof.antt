@@ -5,20 +5,13 @@ use borrow.Author.Needs.{needs}
 use Rattle.key_records.proofs.parses_public_key.Statement.{statement}
 use Rattle.key_records.proofs.parses_public_key.Tie as tie
 
-returns : tie.Need-returns
-unfolding parsesPublicKey
-returns c = search chain
-
-returns-2 : tie.Need-returns-2
-unfolding parsesPublicKey
-returns-2 c = search chain
-
 pub parses-public-key-spec : {M : Type 1} → statement M
+unfolding parsesPublicKey
 parses-public-key-spec =
     tie.close
     (tie.spec
     (λ c. search needs)
     (λ c κs. search needs)
-    returns
+    (λ c. search chain)
     (λ c κs. search needs)
-    returns-2)
+    (λ c. search chain))

@@ -5,26 +5,15 @@ use borrow.Author.Needs.{needs}
 use Rattle.key_records.proofs.parses_response.Statement.{statement}
 use Rattle.key_records.proofs.parses_response.Tie as tie
 
-returns : tie.Need-returns
-unfolding parsesResponse
-returns c = search chain
-
-returns-2 : tie.Need-returns-2
-unfolding parsesResponse
-returns-2 c = search chain
-
-returns-3 : tie.Need-returns-3
-unfolding parsesResponse
-returns-3 c = search chain
-
 pub parses-response-spec : {M : Type 1} → statement M
+unfolding parsesResponse
 parses-response-spec =
     tie.close
     (tie.spec
     (λ c. search needs)
     (λ c κs. search needs)
-    returns
+    (λ c. search chain)
     (λ c κs. search needs)
-    returns-2
+    (λ c. search chain)
     (λ c κs. search needs)
-    returns-3)
+    (λ c. search chain))

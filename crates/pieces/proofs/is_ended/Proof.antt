@@ -1,5 +1,5 @@
 -- `pieces::is_ended` meets its contract, a law a return.
-use Rattle.pieces.proofs.EndLaws.{endCases}
+use Rattle.pieces.proofs.EndLaws.{empty-ended, not-ended, ended}
 use borrow.Author.Needs.{needs}
 use Rattle.pieces.proofs.is_ended.Statement.{statement}
 use Rattle.pieces.proofs.is_ended.Tie as tie
@@ -8,8 +8,8 @@ pub is-ended-spec : {M : Type 1} → statement M
 is-ended-spec =
     tie.close
     (tie.spec
-    (λ c. search endCases)
+    (λ c. search empty-ended)
     (λ c. search needs)
     (λ c. search needs)
-    (λ c. search endCases)
-    (λ c. search endCases))
+    (λ c. search not-ended)
+    (λ c. search ended))

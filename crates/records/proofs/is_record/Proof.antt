@@ -1,5 +1,5 @@
 -- `records::is_record` meets its contract, a law a return.
-use Rattle.records.proofs.ParseLaws.{recordCases}
+use Rattle.records.proofs.ParseLaws.{other-type, bad-sum, bad-end, unprintable, no-type, other-count, a-record}
 use borrow.Author.Needs.{needs}
 use Rattle.records.proofs.is_record.Statement.{statement}
 use Rattle.records.proofs.is_record.Tie as tie
@@ -10,16 +10,16 @@ is-record-spec =
     (tie.spec
     (λ c κs. search needs)
     (λ c κs. search needs)
-    (λ c. search recordCases)
+    (λ c. search other-type)
     (λ c κs. search needs)
-    (λ c. search recordCases)
+    (λ c. search bad-sum)
     (λ c κs. search needs)
     (λ c κs. search needs)
-    (λ c. search recordCases)
+    (λ c. search bad-end)
     (λ c κs. search needs)
-    (λ c. search recordCases)
+    (λ c. search unprintable)
     (λ c κs. search needs)
-    (λ c. search recordCases)
+    (λ c. search no-type)
     (λ c. search needs)
-    (λ c. search recordCases)
-    (λ c. search recordCases))
+    (λ c. search other-count)
+    (λ c. search a-record))

@@ -1,5 +1,5 @@
 -- `register_rows::is_register_sound` meets its contract, a law a return.
-use Rattle.register_rows.proofs.RegisterLaws.{soundCases}
+use Rattle.register_rows.proofs.RegisterLaws.{vacant-sound, filled-sound}
 use borrow.Author.Needs.{needs}
 use Rattle.register_rows.proofs.is_register_sound.Statement.{statement}
 use Rattle.register_rows.proofs.is_register_sound.Tie as tie
@@ -9,6 +9,6 @@ is-register-sound-spec =
     tie.close
     (tie.spec
     (λ c κs. search needs)
-    (λ c. search soundCases)
+    (λ c. search vacant-sound)
     (λ c κs. search needs)
-    (λ c. search soundCases))
+    (λ c. search filled-sound))

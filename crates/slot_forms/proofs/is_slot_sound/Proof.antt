@@ -1,5 +1,5 @@
 -- `slot_forms::is_slot_sound` meets its contract, a law a return.
-use Rattle.slot_forms.proofs.FormLaws.{soundCases}
+use Rattle.slot_forms.proofs.FormLaws.{zero-sound, free-unsound, no-state, filled-sound}
 use borrow.Author.Needs.{needs}
 use Rattle.slot_forms.proofs.is_slot_sound.Statement.{statement}
 use Rattle.slot_forms.proofs.is_slot_sound.Tie as tie
@@ -9,8 +9,8 @@ is-slot-sound-spec =
     tie.close
     (tie.spec
     (λ c κs. search needs)
-    (λ c. search soundCases)
-    (λ c. search soundCases)
-    (λ c. search soundCases)
+    (λ c. search zero-sound)
+    (λ c. search free-unsound)
+    (λ c. search no-state)
     (λ c κs. search needs)
-    (λ c. search soundCases))
+    (λ c. search filled-sound))

@@ -5,30 +5,15 @@ use borrow.Author.Needs.{needs}
 use Rattle.slot_forms.proofs.is_zero_slot.Statement.{statement}
 use Rattle.slot_forms.proofs.is_zero_slot.Tie as tie
 
-returns : tie.Need-returns
-unfolding isZeroSlot
-returns c = search zeroCases
-
-returns-2 : tie.Need-returns-2
-unfolding isZeroSlot
-returns-2 c = search zeroCases
-
-returns-3 : tie.Need-returns-3
-unfolding isZeroSlot
-returns-3 c = search zeroCases
-
-returns-4 : tie.Need-returns-4
-unfolding isZeroSlot
-returns-4 c = search zeroCases
-
 pub is-zero-slot-spec : {M : Type 1} → statement M
+unfolding isZeroSlot
 is-zero-slot-spec =
     tie.close
     (tie.spec
-    returns
+    (λ c. search zeroCases)
     (λ c κs. search needs)
-    returns-2
+    (λ c. search zeroCases)
     (λ c κs. search needs)
-    returns-3
+    (λ c. search zeroCases)
     (λ c κs. search needs)
-    returns-4)
+    (λ c. search zeroCases))

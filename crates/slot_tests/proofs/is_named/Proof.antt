@@ -1,5 +1,5 @@
 -- `slot_tests::is_named` meets its contract, a law a return.
-use Rattle.slot_tests.proofs.TestLaws.{namedCases}
+use Rattle.slot_tests.proofs.TestLaws.{free-not-named, named}
 use borrow.Author.Needs.{needs}
 use Rattle.slot_tests.proofs.is_named.Statement.{statement}
 use Rattle.slot_tests.proofs.is_named.Tie as tie
@@ -9,7 +9,7 @@ is-named-spec =
     tie.close
     (tie.spec
     (λ c κs. search needs)
-    (λ c. search namedCases)
+    (λ c. search free-not-named)
     (λ c κs. search needs)
     (λ c κs. search needs)
-    (λ c. search namedCases))
+    (λ c. search named))

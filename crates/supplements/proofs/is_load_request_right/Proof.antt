@@ -1,5 +1,5 @@
 -- `supplements::is_load_request_right` meets its contract, a law a return; the request is at most the 700 bytes that there are.
-use Rattle.supplements.proofs.SupplementLaws.{requestCases, room, front}
+use Rattle.supplements.proofs.SupplementLaws.{no-request, long-request, request-text, room, front}
 use borrow.Author.Needs.{needs}
 use Rattle.supplements.proofs.is_load_request_right.Statement.{statement}
 use Rattle.supplements.proofs.is_load_request_right.Tie as tie
@@ -8,9 +8,9 @@ pub is-load-request-right-spec : {M : Type 1} → statement M
 is-load-request-right-spec =
     tie.close
     (tie.spec
-    (λ c. search requestCases)
-    (λ c. search requestCases)
+    (λ c. search no-request)
+    (λ c. search long-request)
     (λ c. search (room, needs))
     (λ c. search (front, needs))
     (λ c κs. search needs)
-    (λ c. search requestCases))
+    (λ c. search request-text))

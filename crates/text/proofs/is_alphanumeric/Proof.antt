@@ -1,5 +1,5 @@
 -- `text::is_alphanumeric` meets its contract, a law a return.
-use Rattle.text.proofs.ClassLaws.{alphanumericCases}
+use Rattle.text.proofs.ClassLaws.{a-digit, a-capital, a-small}
 use borrow.Author.Needs.{needs}
 use Rattle.text.proofs.is_alphanumeric.Statement.{statement}
 use Rattle.text.proofs.is_alphanumeric.Tie as tie
@@ -9,8 +9,8 @@ is-alphanumeric-spec =
     tie.close
     (tie.spec
     (λ c κs. search needs)
-    (λ c. search alphanumericCases)
+    (λ c. search a-digit)
     (λ c κs. search needs)
-    (λ c. search alphanumericCases)
+    (λ c. search a-capital)
     (λ c κs. search needs)
-    (λ c. search alphanumericCases))
+    (λ c. search a-small))

@@ -1,5 +1,5 @@
 -- `timestamp::is_later` meets its contract, a law a return.
-use Rattle.timestamp.proofs.MomentLaws.{laterCases}
+use Rattle.timestamp.proofs.MomentLaws.{first-bad, second-bad, compared}
 use borrow.Author.Needs.{needs}
 use Rattle.timestamp.proofs.is_later.Statement.{statement}
 use Rattle.timestamp.proofs.is_later.Tie as tie
@@ -10,8 +10,8 @@ is-later-spec =
     (tie.spec
     (λ c. search needs)
     (λ c. search needs)
-    (λ c. search laterCases)
+    (λ c. search first-bad)
     (λ c. search needs)
     (λ c. search needs)
-    (λ c. search laterCases)
-    (λ c. search laterCases))
+    (λ c. search second-bad)
+    (λ c. search compared))

@@ -1,5 +1,5 @@
 -- `timestamp::read_timestamp` meets its contract, a law a return.
-use Rattle.timestamp.proofs.MomentLaws.{stampCases}
+use Rattle.timestamp.proofs.MomentLaws.{not-sixteen, no-t, no-z, stamp-read}
 use borrow.Author.Needs.{needs}
 use Rattle.timestamp.proofs.read_timestamp.Statement.{statement}
 use Rattle.timestamp.proofs.read_timestamp.Tie as tie
@@ -8,11 +8,11 @@ pub read-timestamp-spec : {M : Type 1} → statement M
 read-timestamp-spec =
     tie.close
     (tie.spec
-    (λ c. search stampCases)
+    (λ c. search not-sixteen)
     (λ c. search needs)
-    (λ c. search stampCases)
+    (λ c. search no-t)
     (λ c. search needs)
-    (λ c. search stampCases)
+    (λ c. search no-z)
     (λ c. search needs)
     (λ c. search needs)
     (λ c. search needs)
@@ -20,4 +20,4 @@ read-timestamp-spec =
     (λ c. search needs)
     (λ c. search needs)
     (λ c κs. search needs)
-    (λ c. search stampCases))
+    (λ c. search stamp-read))

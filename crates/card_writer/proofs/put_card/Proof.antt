@@ -1,15 +1,15 @@
--- `stored_cards::put_card` meets its contract. What is left of the table is what is left to write.
+-- `card_writer::put_card` meets its contract. What is left of the table is what is left to write.
 use mathlib.Core.Path.{_≡_, refl}
 use Prim.Native.Nat.{_+_, _-_, _≤_}
 use lib.ListN.{length, drop}
 use lib.Seq.{sets}
 use Rattle.attributes.specs.Table.{table, rows}
 use Rattle.stored_cards.specs.Stored.{cardBytes, storedCard, storedValue, defaultCard}
 use Rattle.attributes.proofs.TableLaws.{name-three}
-use Rattle.stored_cards.proofs.WriteLaws.{all-written, entry-turn, all-counted, entry-room, count-turn}
+use Rattle.card_writer.proofs.WriteLaws.{all-written, entry-turn, all-counted, entry-room, count-turn}
 use borrow.Author.Needs.{needs}
-use Rattle.stored_cards.proofs.put_card.Statement.{statement}
-use Rattle.stored_cards.proofs.put_card.Tie as tie
+use Rattle.card_writer.proofs.put_card.Statement.{statement}
+use Rattle.card_writer.proofs.put_card.Tie as tie
 
 abbrev Inv-loop : tie.InvT-loop
 Inv-loop dst₀ card clu kcv ksl vnd default at₀ k₀ dst at k = let f = storedValue card clu kcv ksl vnd in (k ≤ rows) × (length dst ≡ length dst₀) × (default ≡ defaultCard) × (at + length (cardBytes (drop k table) f) ≡ length (storedCard card clu kcv ksl vnd)) × (sets dst at (cardBytes (drop k table) f) ≡ sets dst₀ 0 (storedCard card clu kcv ksl vnd))

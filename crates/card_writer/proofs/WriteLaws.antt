@@ -10,19 +10,16 @@ use Rattle.octets.specs.Wrote.{Wrote}
 use Rattle.octets.proofs.Writes.{then, from-start, sets-append}
 use Rattle.cards.specs.Entries.{nameBytes, entryBytes, valueOr}
 use Rattle.attributes.specs.Table.{CLU, KCV, KSL, VND, table, rows, name}
 use Rattle.stored_cards.specs.Stored.{inRow, cardBytes, storedValue, defaultCard}
 use Rattle.attributes.specs.declared.Attribute.{Attribute}
-use Rattle.stored_cards.proofs.ListLaws.{drop-replicate}
+use Rattle.card_writer.proofs.ListLaws.{drop-replicate}
 use Rattle.attributes.proofs.TableLaws.{table-end}
+use Rattle.cards.proofs.EntryLaws.{entry-length}
 
 -- put_entry
 pub entry-written : {d e f g v : List ℕ} {a b c r : ℕ} (n : ℕ) → Wrote d a (nameBytes n) e b → Wrote e b v f c → Wrote f c (59 ∷ []) g r → Wrote d a (entryBytes n v) g r
 unfolding entryBytes
 entry-written n p q s = then p (then q s)
-
-pub entry-length : (n : ℕ) (v : List ℕ) → length (entryBytes n v) ≡ length v + 4
-unfolding entryBytes
-entry-length n v = simp length-append (omega arith)
 
 -- stored_value
 module _ (card clu kcv ksl vnd : List ℕ) (n : ℕ) where
@@ -46,8 +43,6 @@ module _ (card clu kcv ksl vnd : List ℕ) (n : ℕ) where
     pub value-card : (other v : List ℕ) → other ≡ defaultCard → v ≡ valueOr n card other → v ≡ storedValue card clu kcv ksl vnd n
     unfolding storedValue
     value-card other v o p = rw (ne-eqb n CLU a, ne-eqb n KCV b, ne-eqb n KSL c, ne-eqb n VND d, p, o)
-
-pub ruleset valueCases = (value-clu, value-kcv, value-ksl, value-vnd, value-card)
 
 -- put_card: z is what comes of it all; the entries from the k-th attribute on are to be stored from `at` on
 module _ (f : ℕ → List ℕ) (d z : List ℕ) (at k : ℕ) (inv : sets d at (cardBytes (drop k table) f) ≡ z) where

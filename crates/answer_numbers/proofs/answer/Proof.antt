@@ -1,8 +1,8 @@
--- `diminurel::answer` meets its contract: the core's answer, in numbers and in two tables.
-use Rattle.diminurel.proofs.AnswerLaws.{number-of, byte-of, responded-of, slots-of, registers-of}
+-- `answer_numbers::answer` meets its contract: the core's answer, in numbers and in two tables.
+use Rattle.answer_numbers.proofs.AnswerLaws.{number-of, byte-of, responded-of, slots-of, registers-of}
 use borrow.Author.Needs.{needs}
-use Rattle.diminurel.proofs.answer.Statement.{statement}
-use Rattle.diminurel.proofs.answer.Tie as tie
+use Rattle.answer_numbers.proofs.answer.Statement.{statement}
+use Rattle.answer_numbers.proofs.answer.Tie as tie
 
 pub answer-spec : {M : Type 1} → statement M
 answer-spec =

@@ -1,8 +1,8 @@
--- `slot_fields::put_slot` meets its contract: six fields in four writes.
-use Rattle.slot_fields.proofs.FieldLaws.{sixteen, slot-told}
+-- `slot_reports::put_slot` meets its contract: six fields in four writes.
+use Rattle.slot_reports.proofs.ReportLaws.{sixteen, slot-told}
 use borrow.Author.Needs.{needs}
-use Rattle.slot_fields.proofs.put_slot.Statement.{statement}
-use Rattle.slot_fields.proofs.put_slot.Tie as tie
+use Rattle.slot_reports.proofs.put_slot.Statement.{statement}
+use Rattle.slot_reports.proofs.put_slot.Tie as tie
 
 pub put-slot-spec : {M : Type 1} → statement M
 put-slot-spec =

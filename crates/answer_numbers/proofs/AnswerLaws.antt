@@ -10,8 +10,8 @@ use Rattle.engine.specs.Calls.{callIn, Responded, tablesAfter}
 use Rattle.engine.specs.Outcomes.{outcomeNumber}
 use Rattle.engine.specs.Usable.{isUsable}
 use Rattle.engine.specs.declared.Outcome.{Outcome}
-use Rattle.diminurel.specs.Numbers.{stateByte, yesByte}
-use Rattle.diminurel.specs.Lent.{slotsIn, registersIn}
+use Rattle.answer_numbers.specs.Numbers.{stateByte, yesByte}
+use Rattle.answer_numbers.specs.Joined.{slotsIn, registersIn}
 
 -- answer: t are the tables that were joined, u what they are
 module _ (t u : Tables) (e : t ≡ u) (x : Supplement) (q : List ℕ) (room : ℕ) where

@@ -1,8 +1,8 @@
--- `stored_cards::put_entry` meets its contract: three writes, one after the other.
-use Rattle.stored_cards.proofs.WriteLaws.{entry-written}
+-- `card_writer::put_entry` meets its contract: three writes, one after the other.
+use Rattle.card_writer.proofs.WriteLaws.{entry-written}
 use borrow.Author.Needs.{needs}
-use Rattle.stored_cards.proofs.put_entry.Statement.{statement}
-use Rattle.stored_cards.proofs.put_entry.Tie as tie
+use Rattle.card_writer.proofs.put_entry.Statement.{statement}
+use Rattle.card_writer.proofs.put_entry.Tie as tie
 
 pub put-entry-spec : {M : Type 1} → statement M
 put-entry-spec =

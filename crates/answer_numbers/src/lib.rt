@@ -1,0 +1,103 @@
+// The two answers over tables by value, in numbers, for the entry points: what the core answers of a request, and which key may vend. Numbers stand in place of enums
+// (document 01, "Where an answer is an enum, a definition gives this paper's number and values for each of its cases").
+use engine::Outcome;
+use lent_rows::RegisterTable;
+use lent_rows::SlotTable;
+use rows::Supplement;
+use rows::Tables;
+ghost use mathlib.Core.Path.{_≡_};
+ghost use lib.ListN.{length};
+ghost use Rattle.engine.specs.Answers.{answerOf};
+ghost use Rattle.engine.specs.Calls.{callIn, Responded, tablesAfter};
+ghost use Rattle.engine.specs.Outcomes.{outcomeNumber};
+ghost use Rattle.engine.specs.Usable.{isUsable};
+ghost use Rattle.answer_numbers.specs.Numbers.{stateByte, yesByte};
+ghost use Rattle.answer_numbers.specs.Joined.{joined, slotsIn, registersIn};
+
+// The outcome's number, the slot state that the answer carries (255 where it carries none), and the length of the response.
+#[repr(C)]
+pub struct Reply {
+    pub outcome: u8,
+    pub state: u8,
+    pub length: usize,
+}
+
+// A reply, and the tables after it.
+pub struct Answered {
+    pub reply: Reply,
+    pub slots: SlotTable,
+    pub registers: RegisterTable,
+}
+
+fn state_byte(o: Outcome) -> u8
+    ensures { λ n. ⌜ n ≡ stateByte o ⌝ }
+{
+    match o {
+        Outcome::Accepted(a) => slot_tests::state_number(a),
+        Outcome::Done => 255,
+        Outcome::Refused(_) => 255,
+    }
+}
+
+// The tables of slots and of registers as one.
+fn join(s: SlotTable, r: RegisterTable) -> Tables
+    ensures { λ t. ⌜ t ≡ joined s r ⌝ }
+{
+    let slots = s.rows;
+    let registers = r.rows;
+    Tables {
+        slots,
+        registers,
+        slot_count: s.count,
+        register_count: r.count,
+    }
+}
+
+// Handles a request over tables by value.
+pub fn answer(
+    s: SlotTable,
+    r: RegisterTable,
+    x: Supplement,
+    request: &[u8],
+    response: &mut [u8],
+) -> Answered
+    ensures { λ a. ⌜ a .reply .outcome ≡ outcomeNumber (answerOf (callIn (joined s r) x (now (request .entry)) (length (now (response .entry)))) .outcome) ⌝ }
+    ensures state { λ a. ⌜ a .reply .state ≡ stateByte (answerOf (callIn (joined s r) x (now (request .entry)) (length (now (response .entry)))) .outcome) ⌝ }
+    ensures written { λ a. ⌜ Responded (joined s r) (answerOf (callIn (joined s r) x (now (request .entry)) (length (now (response .entry))))) (now (response .entry)) (a .reply .length) (now (response .exit)) ⌝ }
+    ensures slots { λ a. ⌜ a .slots ≡ slotsIn (tablesAfter (joined s r) (answerOf (callIn (joined s r) x (now (request .entry)) (length (now (response .entry)))))) ⌝ }
+    ensures registers { λ a. ⌜ a .registers ≡ registersIn (tablesAfter (joined s r) (answerOf (callIn (joined s r) x (now (request .entry)) (length (now (response .entry)))))) ⌝ }
+{
+    let a = core::handle(join(s, r), x, request, response);
+    let o = a.outcome;
+    let t = a.tables;
+    let slots = t.slots;
+    let registers = t.registers;
+    let reply = Reply {
+        outcome: refusal_numbers::outcome_number(o),
+        state: state_byte(o),
+        length: a.length,
+    };
+    let slot_table = SlotTable {
+        rows: slots,
+        count: t.slot_count,
+    };
+    let register_table = RegisterTable {
+        rows: registers,
+        count: t.register_count,
+    };
+    Answered {
+        reply,
+        slots: slot_table,
+        registers: register_table,
+    }
+}
+
+// Whether the key in a register may vend, over tables by value.
+pub fn usable(s: SlotTable, r: RegisterTable, register: usize) -> u8
+    ensures { λ n. ⌜ n ≡ yesByte (isUsable (joined s r) register) ⌝ }
+{
+    if usable::is_usable(join(s, r), register) {
+        return 1;
+    }
+    0
+}

@@ -1,0 +1,106 @@
+// Writes the stored card, which has all fifteen attributes, from an incoming one (document 01, Cards).
+use attributes::CLU;
+use attributes::KCV;
+use attributes::KSL;
+use attributes::ROWS;
+use attributes::VND;
+ghost use mathlib.Core.Path.{_≡_};
+ghost use Prim.Native.Nat.{_+_, _≤_, _<_};
+ghost use lib.ListN.{length};
+ghost use Rattle.octets.specs.Wrote.{Wrote};
+ghost use Rattle.cards.specs.Entries.{entryBytes};
+ghost use Rattle.stored_cards.specs.Stored.{defaultCard, storedValue, storedCard, inRow};
+
+// Writes an entry.
+fn put_entry(dst: &mut [u8], at: usize, name: u32, v: &[u8]) -> usize
+    requires { ⌜ (name < 16777216) × (at + length (now v) + 4 ≤ length (now dst)) ⌝ }
+    ensures { λ r. ⌜ Wrote (now (dst .entry)) at (entryBytes name (now (v .entry))) (now (dst .exit)) r ⌝ }
+{
+    let n = [
+        (name / 65536) as u8,
+        (name / 256 % 256) as u8,
+        (name % 256) as u8,
+    ];
+    let a = octets::put(dst, at, &n);
+    let b = octets::put(dst, a, v);
+    octets::put_byte(dst, b, 59)
+}
+
+// The value that is stored under a name: the engine's own, else the incoming card's, else the default card's.
+fn stored_value<'a>(
+    name: u32,
+    card: &'a [u8],
+    default: &'a [u8],
+    clu: &'a [u8],
+    kcv: &'a [u8],
+    ksl: &'a [u8],
+    vnd: &'a [u8],
+) -> &'a [u8]
+    requires { ⌜ now default ≡ defaultCard ⌝ }
+    ensures { λ r. ⌜ now r ≡ storedValue (now (card .entry)) (now (clu .entry)) (now (kcv .entry)) (now (ksl .entry)) (now (vnd .entry)) name ⌝ }
+{
+    if name == CLU {
+        return clu;
+    }
+    if name == KCV {
+        return kcv;
+    }
+    if name == KSL {
+        return ksl;
+    }
+    if name == VND {
+        return vnd;
+    }
+    cards::value_or(card, default, name)
+}
+
+// Writes the stored card from the start on.
+fn put_card<'a>(
+    dst: &mut [u8],
+    card: &'a [u8],
+    clu: &'a [u8],
+    kcv: &'a [u8],
+    ksl: &'a [u8],
+    vnd: &'a [u8],
+) -> usize
+    requires { ⌜ length (storedCard (now card) (now clu) (now kcv) (now ksl) (now vnd)) ≤ length (now dst) ⌝ }
+    ensures { λ r. ⌜ Wrote (now (dst .entry)) 0 (storedCard (now (card .entry)) (now (clu .entry)) (now (kcv .entry)) (now (ksl .entry)) (now (vnd .entry))) (now (dst .exit)) r ⌝ }
+{
+    let default = b"CLMFFFFFFFF;IUT20380119T031407Z;SBMFFFF;ULM999999999;";
+    let mut at = 0;
+    let mut k = 0;
+    while k < ROWS {
+        let a = attributes::row(k);
+        let name = a.0;
+        let v = stored_value(name, card, default, clu, kcv, ksl, vnd);
+        at = put_entry(dst, at, name, v);
+        k += 1;
+    }
+    at
+}
+
+// A card in 256 bytes, zero after its end, and how long it is.
+pub struct Stored {
+    pub card: [u8; 256],
+    pub length: usize,
+}
+
+// The card that is stored of an incoming one.
+pub fn write_card<'a>(
+    card: &'a [u8],
+    clu: &'a [u8],
+    kcv: &'a [u8],
+    ksl: &'a [u8],
+    vnd: &'a [u8],
+) -> Stored
+    requires { ⌜ length (storedCard (now card) (now clu) (now kcv) (now ksl) (now vnd)) ≤ 256 ⌝ }
+    ensures { λ r. ⌜ r .card ≡ inRow (storedCard (now (card .entry)) (now (clu .entry)) (now (kcv .entry)) (now (ksl .entry)) (now (vnd .entry))) ⌝ }
+    ensures measured { λ r. ⌜ r .length ≡ length (storedCard (now (card .entry)) (now (clu .entry)) (now (kcv .entry)) (now (ksl .entry)) (now (vnd .entry))) ⌝ }
+{
+    let mut out = [0u8; 256];
+    let n = put_card(&mut out, card, clu, kcv, ksl, vnd);
+    Stored {
+        card: out,
+        length: n,
+    }
+}

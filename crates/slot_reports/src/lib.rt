@@ -1,0 +1,23 @@
+// The six fields that SM?KQ tells of one slot (001 clause 6.3.2), in a row.
+use rows::SlotRow;
+use rows::SlotState;
+ghost use Prim.Native.Nat.{_+_, _≤_};
+ghost use lib.ListN.{length};
+ghost use Rattle.octets.specs.Wrote.{Wrote};
+ghost use Rattle.fields.specs.Values.{payloadBytes};
+ghost use Rattle.rows.specs.Reports.{slotFields};
+
+// Writes state and KMCID, the KEK's TVP and fingerprint, and those that a response is awaited for. Answers the place after them.
+pub fn put_slot(dst: &mut [u8], at: usize, row: SlotRow) -> usize
+    requires { ⌜ at + 123 ≤ length (now dst) ⌝ }
+    ensures { λ r. ⌜ Wrote (now (dst .entry)) at (payloadBytes (slotFields row)) (now (dst .exit)) r ⌝ }
+    ensures short { λ r. ⌜ r ≤ at + 123 ⌝ }
+{
+    let fingerprint = row.fingerprint;
+    let tvp = row.tvp;
+    let pending = slot_tests::has_state(row, SlotState::Pending);
+    let a = slot_fields::put_state(dst, at, row);
+    let b = slot_fields::put_kmcid(dst, a, row);
+    let c = slot_fields::put_key(dst, b, !pending, b"", &fingerprint);
+    slot_fields::put_key(dst, c, pending, &tvp, &fingerprint)
+}
