@@ -1,12 +1,16 @@
 # The commands that README.md names.
-.PHONY: test run vectors compare fuzz bench format
+.PHONY: test run requests vectors compare fuzz bench format
 
 # Proves every crate from nothing, tries the must-fail edits, runs the programs and the comparison tests.
 test:
 	@bash tools/test.sh
 
-# Proves and runs the program that hands in requests, and prints what each is answered.
+# Proves and runs the console on the customer's story, scripts/story.txt.
 run:
+	@bash tools/run.sh console
+
+# Proves and runs the program that hands in requests, and prints what each is answered.
+requests:
 	@bash tools/run.sh requests
 
 # Proves and runs the vectors program, and prints what each vector gives.

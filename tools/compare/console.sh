@@ -1,10 +1,11 @@
 #!/usr/bin/env bash
 # Compares a console with the second implementation's on scripts: tools/compare/console.sh PROGRAM SCRIPTS..
 # Before diff the fields of SM?GL are sorted, since their sequence is open (reference/src/bin/sort_lists.rs). A line `show`
-# is handed in as a comment, since it is text for people. Without arguments the comparison tries itself.
+# is handed in as a comment, since it is text for people. Without arguments the comparison tries itself, and then compares
+# the console of crates/ on the repository's scripts and on random ones.
 set -eu -o pipefail
 top=$(cd "$(dirname "$0")/../.." && pwd)
-(cd "$top/reference" && cargo build --quiet --offline --release --bin console --bin sort_lists)
+(cd "$top/reference" && cargo build --quiet --offline --release --bin console --bin random_script --bin sort_lists)
 export built="$top/reference/target/release"
 work=$(mktemp -d)
 trap 'rm -rf "$work"' EXIT
@@ -54,3 +55,7 @@ finds "sed 's/ ?\$/ ??/'"
 finds "sed 's/^/ /'"
 finds "{ cat; exit 1; }"
 echo "console: the comparison finds wrong consoles"
+
+(cd "$top" && rt check console) | grep -E '^rt: (console|ok)'
+for seed in $(seq 20); do "$built/random_script" "$seed" 3000 > "$work/random-$seed.txt"; done
+compare "$top/target/bin/console" "$top"/scripts/*.txt "$work"/random-*.txt

@@ -4,6 +4,7 @@ use engine::Outcome;
 use rows::Supplement;
 use rows::Tables;
 ghost use mathlib.Core.Path.{_≡_};
+ghost use Prim.Native.Nat.{_≤_};
 ghost use lib.ListN.{length};
 ghost use Rattle.engine.specs.Answers.{answerOf};
 ghost use Rattle.engine.specs.Calls.{callIn, Responded, tablesAfter};
@@ -20,6 +21,7 @@ pub fn handle(t: Tables, x: Supplement, request: &[u8], response: &mut [u8]) -> 
     ensures { λ a. ⌜ a .outcome ≡ answerOf (callIn t x (now (request .entry)) (length (now (response .entry)))) .outcome ⌝ }
     ensures written { λ a. ⌜ Responded t (answerOf (callIn t x (now (request .entry)) (length (now (response .entry))))) (now (response .entry)) (a .length) (now (response .exit)) ⌝ }
     ensures rows { λ a. ⌜ a .tables ≡ tablesAfter t (answerOf (callIn t x (now (request .entry)) (length (now (response .entry))))) ⌝ }
+    ensures fits { λ a. ⌜ a .length ≤ length (now (response .entry)) ⌝ }
 {
     let d = decisions::decide(t, x, request, response.len());
     let length = responding::respond(d, t, x, request, response);

@@ -1,5 +1,5 @@
-pub mod Steps
 pub mod Linear
 pub mod EveryEntry
 pub mod Entries
+pub mod Steps
 pub mod Bound

@@ -3,24 +3,28 @@ mod table;
 
 use table::TABLE;
 ghost use mathlib.Core.Path.{_≡_};
-ghost use Rattle.crc.specs.Crc.{crcByte, crcOf, arcOf, modbusOf};
+ghost use Prim.Native.Nat.{_%_, _<_};
+ghost use lib.Bits.{bitXor};
+ghost use Rattle.crc.specs.Crc.{crcOf, arcOf, modbusOf};
 
-// The check value after one more byte.
-fn crc_byte(c: u16, b: u8) -> u16
-    ensures { λ r. ⌜ r ≡ crcByte c b ⌝ }
+// Where the table has the entry of one more byte.
+fn place(c: u16, b: u8) -> usize
+    ensures { λ r. ⌜ r ≡ bitXor c b % 256 ⌝ }
+    ensures small { λ r. ⌜ r < 256 ⌝ }
 {
-    let n = ((c ^ (b as u16)) % 256) as usize;
-    (c / 256) ^ TABLE[n]
+    ((c ^ (b as u16)) % 256) as usize
 }
 
-// The check value of s, from a start value.
+// The check value of s, from a start value. The table is taken once, since each `TABLE[n]` would make it anew.
 fn crc_from(start: u16, s: &[u8]) -> u16
     ensures { λ r. ⌜ r ≡ crcOf start (now (s .entry)) ⌝ }
 {
+    let table = TABLE;
     let mut c = start;
     let mut i = 0;
     while i < s.len() {
-        c = crc_byte(c, s[i]);
+        let n = place(c, s[i]);
+        c = (c / 256) ^ table[n];
         i += 1;
     }
     c

@@ -10,7 +10,7 @@ use borrow.Author.Tests.{lt-ltb, le-ltb}
 use Rattle.octets.specs.Wrote.{Wrote}
 use Rattle.octets.proofs.Below.{below-or}
 use Rattle.octets.proofs.Writes.{none, then}
-use Rattle.decimal_writer.specs.Digits.{decDigits, decimalBytes}
+use Rattle.decimal_writer.specs.Digits.{decDigits}
 
 pub digits-one : (k v : ℕ) → 0 < k → v < 10 → decDigits k v ≡ (48 + v) ∷ []
 unfolding decDigits
@@ -40,16 +40,12 @@ few-digits (suc k) v =
     (λ (h : 10 ≤ v). rw (digits-more (suc k) v (omega arith) h, length-append, e) (omega arith))
     (below-or v 10)
 
--- put_decimal
-pub decimal-room : (a v n : ℕ) → a + 10 ≤ n → a + length (decDigits 10 v) ≤ n
-decimal-room a v n h = omega (arith, few-digits 10 v)
+-- put_decimal, put_long: at most k digits
+pub digits-room : (k a v n : ℕ) → a + k ≤ n → a + length (decDigits k v) ≤ n
+digits-room k a v n h = omega (arith, few-digits k v)
 
-pub decimal-written : {d e : List ℕ} {a r : ℕ} (v : ℕ) → Wrote d a (decDigits 10 v) e r → Wrote d a (decimalBytes v) e r
-unfolding decimalBytes
-decimal-written v w = w
-
-pub decimal-short : {d e : List ℕ} {a r : ℕ} (v : ℕ) → Wrote d a (decDigits 10 v) e r → r ≤ a + 10
-decimal-short v w = omega (arith, few-digits 10 v, w .next)
+pub digits-short : {d e : List ℕ} {a r : ℕ} (k v : ℕ) → Wrote d a (decDigits k v) e r → r ≤ a + k
+digits-short k v w = omega (arith, few-digits k v, w .next)
 
 -- put_digits: what each of its calls needs, and what it leaves
 pub wrote-none : (d : List ℕ) (a k v : ℕ) → k ≡ 0 → Wrote d a (decDigits k v) d a

@@ -12,3 +12,7 @@ decDigits (suc k) v = cond (ltb v 10) ((48 + v) ∷ []) (decDigits k (v / 10) ++
 -- a number below 10 ^ 10 as it is written
 unfoldable pub decimalBytes : ℕ → List ℕ
 decimalBytes v = decDigits 10 v
+
+-- a number below 10 ^ 20
+unfoldable pub longBytes : ℕ → List ℕ
+longBytes v = decDigits 20 v

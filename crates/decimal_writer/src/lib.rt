@@ -2,10 +2,10 @@
 ghost use Prim.Native.Nat.{_+_, _≤_};
 ghost use lib.ListN.{length};
 ghost use Rattle.octets.specs.Wrote.{Wrote};
-ghost use Rattle.decimal_writer.specs.Digits.{decDigits, decimalBytes};
+ghost use Rattle.decimal_writer.specs.Digits.{decDigits, decimalBytes, longBytes};
 
 // Writes the decimal digits of v, of which there are at most k.
-fn put_digits(dst: &mut [u8], at: usize, v: u32, k: usize) -> usize
+fn put_digits(dst: &mut [u8], at: usize, v: u64, k: usize) -> usize
     requires { ⌜ at + length (decDigits k v) ≤ length (now dst) ⌝ }
     ensures { λ r. ⌜ Wrote (now (dst .entry)) at (decDigits k v) (now (dst .exit)) r ⌝ }
 {
@@ -25,5 +25,14 @@ pub fn put_decimal(dst: &mut [u8], at: usize, v: u32) -> usize
     ensures { λ r. ⌜ Wrote (now (dst .entry)) at (decimalBytes v) (now (dst .exit)) r ⌝ }
     ensures short { λ r. ⌜ r ≤ at + 10 ⌝ }
 {
-    put_digits(dst, at, v, 10)
+    put_digits(dst, at, v as u64, 10)
+}
+
+// Writes any v in decimal without leading zero, and answers the place after it.
+pub fn put_long(dst: &mut [u8], at: usize, v: u64) -> usize
+    requires { ⌜ at + 20 ≤ length (now dst) ⌝ }
+    ensures { λ r. ⌜ Wrote (now (dst .entry)) at (longBytes v) (now (dst .exit)) r ⌝ }
+    ensures short { λ r. ⌜ r ≤ at + 20 ⌝ }
+{
+    put_digits(dst, at, v, 20)
 }

@@ -74,3 +74,6 @@ module _ (digits low high : ℕ) (v : List ℕ) (e : isNumber digits low high v 
 
   pub number-most : decimal v ≤ high
   number-most = leb-true (decimal v) high (and-second (leb low (decimal v)) _ (and-second (isUnpadded v) range (and-second (areAll Digit v) (isUnpadded v && range) digits-tail)))
+
+  pub number-least : low ≤ decimal v
+  number-least = leb-true low (decimal v) (and-first (leb low (decimal v)) (leb (decimal v) high) (and-second (isUnpadded v) range (and-second (areAll Digit v) (isUnpadded v && range) digits-tail)))

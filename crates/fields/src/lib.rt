@@ -22,7 +22,7 @@ pub struct Read {
     pub next: usize,
 }
 
-fn is_octets(v: &[u8]) -> bool
+pub fn is_octets(v: &[u8]) -> bool
     ensures { λ r. ⌜ r ≡ isOctets (now (v .entry)) ⌝ }
 {
     if v.len() % 2 != 0 {

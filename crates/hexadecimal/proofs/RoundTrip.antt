@@ -14,7 +14,7 @@ use Rattle.hexadecimal.specs.Hex.{hexDigit, hexValue, hex4, fromDigits, 
 use Rattle.hexadecimal.specs.declared.Hex4.the-variants.{Number, Bad}
 use Rattle.hexadecimal.proofs.HexLaws.{above}
 
-digit-back : (k : ℕ) → k < 16 → hexValue (hexDigit k) ≡ k
+pub digit-back : (k : ℕ) → k < 16 → hexValue (hexDigit k) ≡ k
 unfolding hexValue hexDigit
 digit-back k h = eqb→eq (hexValue (hexDigit k)) k (at-below (λ n. eqb (hexValue (hexDigit n)) n) 16 tt k h)
 

@@ -11,7 +11,7 @@ pub enum Hex4 {
     Bad,
 }
 
-fn hex_digit(n: u16) -> u8
+pub fn hex_digit(n: u16) -> u8
     requires { ⌜ n < 16 ⌝ }
     ensures { λ r. ⌜ r ≡ hexDigit n ⌝ }
 {
@@ -23,7 +23,7 @@ fn hex_digit(n: u16) -> u8
 }
 
 // The number of a digit; 16 where the byte is no digit.
-fn hex_value(b: u8) -> u16
+pub fn hex_value(b: u8) -> u16
     ensures { λ r. ⌜ r ≡ hexValue b ⌝ }
 {
     if b < 48 {

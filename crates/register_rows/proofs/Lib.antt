@@ -1,1 +1,1 @@
-pub mod RegisterLaws
+pub mod RowLaws

@@ -1,24 +1,16 @@
-// One register row (document 01, "Slots and registers"): whether it is free or holds a card as stored, and a free row.
+// One register row (document 01, "Slots and registers"): whether it is free, and a free row.
 use rows::RegisterRow;
-use text::Class;
 ghost use mathlib.Core.Path.{_≡_};
-ghost use Rattle.rows.specs.Registers.{isVacant, isRegisterSound, freeRegister};
+ghost use Rattle.rows.specs.Registers.{isVacant, freeRegister};
 
-// Whether the row is free.
+// Whether the row is free. A card starts with a letter, so the first byte mostly tells.
 pub fn is_vacant(r: RegisterRow) -> bool
     ensures { λ a. ⌜ a ≡ isVacant r ⌝ }
 {
-    text::are_all(Class::Zero, &r.card)
-}
-
-// Whether the row is free or holds a card as stored.
-pub fn is_register_sound(r: RegisterRow) -> bool
-    ensures { λ a. ⌜ a ≡ isRegisterSound r ⌝ }
-{
-    if is_vacant(r) {
-        return true;
+    if r.card[0] != 0 {
+        return false;
     }
-    stored_cards::is_stored(&r.card)
+    text::are_zeros(&r.card)
 }
 
 // A free row.

@@ -2,4 +2,4 @@ pub mod ListLaws
 pub mod LoopLaws
 pub mod PlaceCounts
 pub mod ReportLaws
-pub mod FieldLoops
+pub mod WriteLoops

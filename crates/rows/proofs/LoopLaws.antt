@@ -18,6 +18,9 @@ list-cons d l i h = rw add-one (drop-cons l i d h)
 pub list-end : {A : Type 0} (l : List A) (i : ℕ) → length l ≤ i → drop i l ≡ []
 list-end l i h = drop-of-length-le l {i = i} h
 
+pub places-end : {A : Type 0} (l : List A) (i m : ℕ) → length l ≡ m → m ≤ i → drop i l ≡ []
+places-end l i m z h = list-end l i (omega arith)
+
 -- the rows from i on among the first n of m places
 pub rows-cons : {A : Type 0} (d : A) (l : List A) (n i m : ℕ) → length l ≡ m → n ≤ m → i < n → drop i (take n l) ≡ getD l i d ∷ drop (i + 1) (take n l)
 rows-cons {A} d l n i m z r h =
@@ -91,7 +94,7 @@ module _ {A B : Type 0} (f : A → B) (d : A) (l : List A) (k : List B) (i m : �
   fill-turn h v e = rw (add-one, e) (rw (drop-cons l i d (omega arith)) at inv)
 
   pub fill-ended : m ≤ i → k ≡ x
-  fill-ended h = rw (list-end l i (omega arith)) at inv
+  fill-ended h = rw (places-end l i m z h) at inv
 
 -- a sweep in place over the first n of m places: u is the table so far, l what it was
 pub record Sweeping {A : Type 0} (f : A → A) (n m : ℕ) (l u : List A) (i : ℕ) : Type 0 where

@@ -21,7 +21,7 @@ fn is_zero(s: &[u8]) -> bool
 }
 
 // Whether every byte of the row is zero.
-fn is_zero_slot(r: SlotRow) -> bool
+pub fn is_zero_slot(r: SlotRow) -> bool
     ensures { λ b. ⌜ b ≡ isZeroSlot r ⌝ }
 {
     if r.state != 0 {

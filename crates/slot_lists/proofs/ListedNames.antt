@@ -1,17 +1,17 @@
 -- What is told of one slot, and of the slots one after the other.
-use mathlib.Core.Path.{_≡_, refl, ap}
+use mathlib.Core.Path.{_≡_, refl}
 use mathlib.Core.Bool.{Bool, true, false, cond, not}
-use mathlib.Core.List.{List, [], _∷_, _++_, map}
+use mathlib.Core.List.{List, [], _∷_, _++_, map, append-assoc}
 use Prim.Native.Nat.{ℕ, _+_}
 use Rattle.octets.specs.Wrote.{Wrote}
 use Rattle.octets.proofs.Writes.{then, none}
-use Rattle.fields.specs.Values.{Value, string, fieldBytes, payloadBytes}
+use Rattle.fields.specs.Values.{string, fieldBytes, payloadBytes}
+use Rattle.rows.specs.Lists.{told}
 use Rattle.rows.specs.Slots.{hasState, kmcidOf}
 use Rattle.rows.specs.Reports.{slotNames, nameFields}
 use Rattle.rows.specs.declared.SlotRow.{SlotRow}
 use Rattle.rows.specs.declared.SlotState.the-variants.{Free}
 use Rattle.rows.proofs.ReportLaws.{notFree}
-use Rattle.rows.proofs.FieldLoops.{told}
 
 -- put_name
 module _ (r : SlotRow) (t : Bool) (e : t ≡ hasState Free r) where
@@ -24,14 +24,15 @@ module _ (r : SlotRow) (t : Bool) (e : t ≡ hasState Free r) where
   name-told d f a b w o = rw (← e, o) (then w (none f b))
 
 -- put_names
-abbrev pub oneName : ℕ → SlotRow → List Value
-oneName i r = nameFields (slotNames (r ∷ []))
+abbrev pub oneName : ℕ → SlotRow → List ℕ
+oneName i r = payloadBytes (nameFields (slotNames (r ∷ [])))
 
-pub names-told : (i : ℕ) (rows : List SlotRow) → told oneName i rows ≡ nameFields (slotNames rows)
+pub names-told : (i : ℕ) (rows : List SlotRow) → told oneName i rows ≡ payloadBytes (nameFields (slotNames rows))
 unfolding slotNames
 names-told i [] = refl
 names-told i (x ∷ xs) = go (hasState Free x) (names-told (i + 1) xs)
   where
-    go : (t : Bool) → told oneName (i + 1) xs ≡ nameFields (map kmcidOf (notFree xs)) → nameFields (map kmcidOf (cond (not t) (x ∷ []) [])) ++ told oneName (i + 1) xs ≡ nameFields (map kmcidOf (cond (not t) (x ∷ notFree xs) (notFree xs)))
+    go : (t : Bool) → told oneName (i + 1) xs ≡ payloadBytes (nameFields (map kmcidOf (notFree xs)))
+        → payloadBytes (nameFields (map kmcidOf (cond (not t) (x ∷ []) []))) ++ told oneName (i + 1) xs ≡ payloadBytes (nameFields (map kmcidOf (cond (not t) (x ∷ notFree xs) (notFree xs))))
     go true q = q
-    go false q = ap (λ (l : List Value). string (kmcidOf x) ∷ l) q
+    go false q = rw (append-assoc, q)

@@ -1,20 +1,56 @@
 -- The cases of a kept name and of two, each with what the code knows where it answers as premises; the loops are those over any rows.
-use mathlib.Core.Path.{_≡_, ap, _∙_}
-use mathlib.Core.Bool.{Bool, true, false}
+use mathlib.Core.Path.{_≡_, refl, sym, ap, _∙_}
+use mathlib.Core.Bool.{Bool, true, false, not, _&&_, and-false}
 use mathlib.Core.List.{List}
-use Prim.Native.Nat.{ℕ, _+_, _≤_, _<_}
-use lib.ListN.{length, getD, drop}
+use Prim.Native.Nat.{ℕ, _+_, _-_, _≤_, _<_}
+use native.Mathlib.Omega.{arith}
+use lib.Dec.{eqb}
+use lib.ListN.{length, getD, take, drop}
+use lib.Seq.{length-take-le, getD-take}
 use borrow.Author.Tests.{eq-eqb, ne-eqb}
-use Rattle.octets.specs.Strings.{sameBytes}
+use Rattle.octets.specs.Strings.{run, isNot, sameBytes}
+use Rattle.octets.proofs.StringLaws.{run-le, same-equal}
 use Rattle.rows.specs.Lists.{someRow, distinctRows, trimmed}
 use Rattle.rows.specs.Index.{isCalled, isSameName}
 use Rattle.rows.proofs.LoopLaws.{pairs-turn, pair-alike}
+
+-- a kept name that is s is at least as long, and ends in its last byte
+module _ (name s : List ℕ) (e : sameBytes (trimmed name) s ≡ true) where
+  same-taken : take (run (isNot 0) name) name ≡ s
+  unfolding trimmed
+  same-taken = same-equal (trimmed name) s e
+
+  same-run : length s ≡ run (isNot 0) name
+  same-run = sym (ap length same-taken) ∙ length-take-le (run (isNot 0) name) name (run-le (isNot 0) name)
+
+  same-long : length s ≤ length name
+  same-long = omega (arith, same-run, run-le (isNot 0) name)
+
+  same-last : (length s ≡ 0 → ⊥) → getD name (length s - 1) 0 ≡ getD s (length s - 1) 0
+  same-last o =
+      sym (getD-take (run (isNot 0) name) name (length s - 1) 0 (omega (arith, same-run, o))) ∙ ap (λ (l : List ℕ). getD l (length s - 1) 0) same-taken
 
 -- is_called
 module _ (s name : List ℕ) where
   pub called-nothing : length s ≡ 0 → false ≡ isCalled s name
   unfolding isCalled
   called-nothing o = rw (eq-eqb (length s) 0 o)
+
+  pub called-longer : length name < length s → false ≡ isCalled s name
+  unfolding isCalled
+  called-longer h = go (sameBytes (trimmed name) s) refl
+    where
+      go : (t : Bool) → sameBytes (trimmed name) s ≡ t → false ≡ (not (eqb (length s) 0) && sameBytes (trimmed name) s)
+      go false e = sym (rw (e, and-false))
+      go true e = absurd (omega (arith, h, same-long name s e))
+
+  pub called-other : (length s ≡ 0 → ⊥) → length s ≤ length name → (getD name (length s - 1) 0 ≡ getD s (length s - 1) 0 → ⊥) → false ≡ isCalled s name
+  unfolding isCalled
+  called-other o h d = go (sameBytes (trimmed name) s) refl
+    where
+      go : (t : Bool) → sameBytes (trimmed name) s ≡ t → false ≡ (not (eqb (length s) 0) && sameBytes (trimmed name) s)
+      go false e = sym (rw (e, and-false))
+      go true e = absurd (d (same-last name s e o))
 
   pub called : (length s ≡ 0 → ⊥) → (v : List ℕ) → v ≡ trimmed name → (b : Bool) → b ≡ sameBytes v s → b ≡ isCalled s name
   unfolding isCalled

@@ -3,11 +3,18 @@ ghost use mathlib.Core.Path.{_≡_};
 ghost use Rattle.rows.specs.Lists.{someRow, distinctRows};
 ghost use Rattle.rows.specs.Index.{isCalled, isSameName};
 
-// Whether a kept name is s.
+// Whether a kept name is s. Names mostly differ in their last byte, so that is compared before the name's end is looked for.
 pub fn is_called(name: &[u8], s: &[u8]) -> bool
     ensures { λ b. ⌜ b ≡ isCalled (now (s .entry)) (now (name .entry)) ⌝ }
 {
     if s.len() == 0 {
+        return false;
+    }
+    if name.len() < s.len() {
+        return false;
+    }
+    let last = s.len() - 1;
+    if name[last] != s[last] {
         return false;
     }
     octets::same_bytes(slot_tests::trimmed(name), s)

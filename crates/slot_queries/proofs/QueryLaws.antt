@@ -1,24 +1,24 @@
 -- What is told of the registers, one after the other, and all of a query's response.
-use mathlib.Core.Path.{_≡_, refl, ap}
+use mathlib.Core.Path.{_≡_, refl}
 use mathlib.Core.Bool.{Bool, true, false, cond, not}
-use mathlib.Core.List.{List, [], _∷_, _++_}
+use mathlib.Core.List.{List, [], _∷_, _++_, append-assoc}
 use Prim.Native.Nat.{ℕ, _+_, _≤_}
 use native.Mathlib.Omega.{arith}
 use lib.ListN.{length, take}
 use borrow.Author.Tests.{not-true, not-false}
 use Rattle.octets.specs.Wrote.{Wrote}
 use Rattle.octets.proofs.Writes.{then, none}
-use Rattle.fields.specs.Values.{Value, number, fieldBytes, payloadBytes}
+use Rattle.fields.specs.Values.{number, fieldBytes, payloadBytes}
+use Rattle.field_writer.proofs.WriteLaws.{payload-append}
 use Rattle.frames.specs.Frames.{ending, headBytes}
 use Rattle.responses.specs.Responses.{responseBytes}
 use Rattle.replies.proofs.ReplyLaws.{replied-fields}
-use Rattle.rows.specs.Lists.{trimmed, numbersFrom}
+use Rattle.rows.specs.Lists.{trimmed, numbersFrom, told}
 use Rattle.rows.specs.Slots.{kmcidOf}
 use Rattle.rows.specs.Registers.{isUnder}
 use Rattle.rows.specs.Reports.{slotFields, registersUnder, numberFields, queryFields}
 use Rattle.rows.specs.declared.SlotRow.{SlotRow}
 use Rattle.rows.specs.declared.RegisterRow.{RegisterRow}
-use Rattle.rows.proofs.FieldLoops.{told, payload-append}
 
 -- put_register
 module _ (s : List ℕ) (r : RegisterRow) (t : Bool) (e : t ≡ isUnder s r) (n : ℕ) (d : List ℕ) (a : ℕ) where
@@ -30,16 +30,16 @@ module _ (s : List ℕ) (r : RegisterRow) (t : Bool) (e : t ≡ isUnder s r) (n 
 
 -- put_registers
 module _ (s : List ℕ) where
-  abbrev pub oneNumber : ℕ → RegisterRow → List Value
-  oneNumber i r = numberFields (numbersFrom (isUnder s) (i + 1) (r ∷ []))
+  abbrev pub oneNumber : ℕ → RegisterRow → List ℕ
+  oneNumber i r = payloadBytes (numberFields (numbersFrom (isUnder s) (i + 1) (r ∷ [])))
 
-  pub numbers-told : (i : ℕ) (rows : List RegisterRow) → told oneNumber i rows ≡ numberFields (numbersFrom (isUnder s) (i + 1) rows)
+  pub numbers-told : (i : ℕ) (rows : List RegisterRow) → told oneNumber i rows ≡ payloadBytes (numberFields (numbersFrom (isUnder s) (i + 1) rows))
   numbers-told i [] = refl
   numbers-told i (x ∷ xs) = go (isUnder s x) (numbers-told (i + 1) xs)
     where
-      go : (t : Bool) → told oneNumber (i + 1) xs ≡ numberFields (numbersFrom (isUnder s) (i + 1 + 1) xs)
-          → numberFields (cond t ((i + 1) ∷ []) []) ++ told oneNumber (i + 1) xs ≡ numberFields (cond t ((i + 1) ∷ numbersFrom (isUnder s) (i + 1 + 1) xs) (numbersFrom (isUnder s) (i + 1 + 1) xs))
-      go true q = ap (λ (l : List Value). number (i + 1) ∷ l) q
+      go : (t : Bool) → told oneNumber (i + 1) xs ≡ payloadBytes (numberFields (numbersFrom (isUnder s) (i + 1 + 1) xs))
+          → payloadBytes (numberFields (cond t ((i + 1) ∷ []) [])) ++ told oneNumber (i + 1) xs ≡ payloadBytes (numberFields (cond t ((i + 1) ∷ numbersFrom (isUnder s) (i + 1 + 1) xs) (numbersFrom (isUnder s) (i + 1 + 1) xs)))
+      go true q = rw (append-assoc, q)
       go false q = q
 
 -- reply_query: head, the slot's fields, the registers' numbers, ending

@@ -12,7 +12,7 @@ use Rattle.rows.specs.Slots.{hasState, kmcidOf}
 use Rattle.rows.specs.Reports.{stateText, slotFields}
 use Rattle.rows.specs.declared.SlotRow.{SlotRow}
 use Rattle.rows.specs.declared.SlotState.the-variants.{Pending}
-use Rattle.rows.proofs.FieldLoops.{payload-append}
+use Rattle.field_writer.proofs.WriteLaws.{payload-append}
 
 -- the room of a TVP or a fingerprint
 pub sixteen : (l : List ℕ) → length l ≡ 16 → length l ≤ 16

@@ -21,7 +21,7 @@ front-filled zero m s h = refl
 front-filled (suc n) m [] h = zeros-front (suc n) m h
 front-filled (suc n) m (b ∷ bs) h = ap (λ (l : List ℕ). b ∷ l) (front-filled n m bs (omega arith))
 
-in-zeros : (n : ℕ) (s v e : List ℕ) (b : ℕ) → v ≡ take n s → length v ≤ n → Wrote (replicate n 0) 0 v e b → e ≡ padded n s
+pub in-zeros : (n : ℕ) (s v e : List ℕ) (b : ℕ) → v ≡ take n s → length v ≤ n → Wrote (replicate n 0) 0 v e b → e ≡ padded n s
 unfolding padded
 in-zeros n s v e b p h w =
     from-start w (rw length-replicate h)

@@ -23,7 +23,7 @@ pub fn free_slot() -> SlotRow
 }
 
 // The first n bytes of s, or all where there are fewer.
-fn front<'a>(s: &'a [u8], n: usize) -> &'a [u8]
+pub fn front<'a>(s: &'a [u8], n: usize) -> &'a [u8]
     ensures { λ t. ⌜ now t ≡ take n (now (s .entry)) ⌝ }
     ensures short { λ t. ⌜ length (now t) ≤ n ⌝ }
 {

@@ -1,12 +1,13 @@
 -- The tests of question 3 in turn, each with what the code knows where it answers as premises: S are the slot rows, R the register rows.
 use mathlib.Core.Path.{_≡_, refl, sym, ap, _∙_}
-use mathlib.Core.Bool.{Bool, true, false, not}
+use mathlib.Core.Bool.{Bool, true, false, not, _&&_, and-true}
 use mathlib.Core.List.{List, [], _∷_, map}
 use Prim.Native.Nat.{ℕ, zero, suc, _≤_}
 use native.Mathlib.Omega.{arith}
 use lib.ListN.{length, take, length-map}
 use lib.Seq.{length-take-le}
 use borrow.Author.Tests.{not-true, not-false}
+use Rattle.octets.proofs.Flags.{and-first, and-second}
 use Rattle.rows.specs.Lists.{everyRow, distinctRows}
 use Rattle.rows.specs.Slots.{isSlotSound, isSameSlot}
 use Rattle.rows.specs.Registers.{isRegisterSound, isSameKey}
@@ -14,6 +15,7 @@ use Rattle.rows.specs.Index.{keptName, isSameName, isOwnedBy, keyNumber, isSame
 use Rattle.rows.specs.Sound.{isOwned, areSound}
 use Rattle.rows.specs.declared.SlotRow.{SlotRow}
 use Rattle.rows.specs.declared.RegisterRow.{RegisterRow}
+use Rattle.register_keys.specs.Judged.{isSoundUnder}
 use Rattle.soundness.proofs.NameLaws.{distinct-names, every-owned}
 use Rattle.soundness.proofs.KeyLaws.{distinct-keys}
 
@@ -29,6 +31,26 @@ filled-room f l k n m z e h = let y : length k ≡ length l = ap length e ∙ le
 
 pub filled-front : {A B : Type 0} (f : A → B) (l : List A) (k : List B) (n m : ℕ) → length l ≡ m → k ≡ map f l → n ≤ m → n ≡ length (take n k)
 filled-front f l k n m z e h = sym (length-take-le n k (filled-room f l k n m z e h))
+
+pub keys-front : (k : List ℕ) (n : ℕ) → length k ≡ 32 → n ≤ 32 → n ≡ length (take n k)
+keys-front k n z h = sym (length-take-le n k (omega arith))
+
+-- rows that pass two tests pass each
+every-both : (names : List (List ℕ)) (l : List RegisterRow) → everyRow (isSoundUnder names) l ≡ (everyRow isRegisterSound l && everyRow (isOwnedBy names) l)
+unfolding isSoundUnder
+every-both names [] = refl
+every-both names (x ∷ xs) = rw (every-both names xs) (swap (isRegisterSound x) (isOwnedBy names x) (everyRow isRegisterSound xs) (everyRow (isOwnedBy names) xs))
+  where
+    swap : (a b c d : Bool) → ((a && b) && (c && d)) ≡ ((a && c) && (b && d))
+    swap true true c d = refl
+    swap true false true d = refl
+    swap true false false d = refl
+    swap false b c d = refl
+
+between-false : (a b c : Bool) → (a && c) ≡ false → (a && (b && c)) ≡ false
+between-false true true c e = e
+between-false true false c e = refl
+between-false false b c e = refl
 
 module _ (slots : List SlotRow) (n : ℕ) (registers : List RegisterRow) (m : ℕ) (a : Bool) (p : a ≡ everyRow isSlotSound (take n slots)) where
   abbrev S : List SlotRow
@@ -55,25 +77,34 @@ module _ (slots : List SlotRow) (n : ℕ) (registers : List RegisterRow) (m : �
     unfolding areSound
     names-alike i = sym (rw (sound-slots, names-judged, not-true b i))
 
-    module _ (i : not b ≡ false) (c : Bool) (r : c ≡ everyRow isRegisterSound (take m registers)) where
+    -- c says whether each register is sound by itself and owned
+    module _ (i : not b ≡ false) (c : Bool) (r : c ≡ everyRow (isSoundUnder (take n names)) (take m registers)) where
+      owners-read : everyRow (isOwned (take n slots)) (take m registers) ≡ everyRow (isOwnedBy (take n names)) (take m registers)
+      owners-read = every-owned (take n slots) sound-slots (take m registers) ∙ ap (λ (l : List (List ℕ)). everyRow (isOwnedBy l) (take m registers)) (sym first-names)
+
+      both-read : (everyRow isRegisterSound (take m registers) && everyRow (isOwned (take n slots)) (take m registers)) ≡ c
+      both-read = rw owners-read (sym (every-both (take n names) (take m registers)) ∙ sym r)
+
       pub registers-unsound : not c ≡ true → false ≡ areSound (take n slots) (take m registers)
       unfolding areSound
-      registers-unsound j = sym (rw (sound-slots, names-judged, not-false b i, ← r, not-true c j))
+      registers-unsound j =
+          let e = between-false (everyRow isRegisterSound (take m registers)) (distinctRows isSameKey (take m registers)) (everyRow (isOwned (take n slots)) (take m registers)) (both-read ∙ not-true c j) in
+          sym (rw (sound-slots, names-judged, not-false b i, e))
 
-      module _ (j : not c ≡ false) (keys : List ℕ) (v : keys ≡ map keyNumber registers) (d : Bool) (s : d ≡ distinctRows isSameNumber (take m keys)) where
+      module _ (j : not c ≡ false) (keys : List ℕ) (v : c ≡ true → take m keys ≡ map keyNumber (take m registers)) (d : Bool) (s : d ≡ distinctRows isSameNumber (take m keys)) where
+        both-true : (everyRow isRegisterSound (take m registers) && everyRow (isOwned (take n slots)) (take m registers)) ≡ true
+        both-true = both-read ∙ not-false c j
+
         sound-registers : everyRow isRegisterSound (take m registers) ≡ true
-        sound-registers = sym r ∙ not-false c j
+        sound-registers = and-first (everyRow isRegisterSound (take m registers)) _ both-true
 
-        keys-judged : distinctRows isSameKey (take m registers) ≡ d
-        keys-judged = distinct-keys (take m registers) sound-registers ∙ ap (distinctRows isSameNumber) (sym (ap (take m) v ∙ take-map keyNumber m registers)) ∙ sym s
+        owned-registers : everyRow (isOwned (take n slots)) (take m registers) ≡ true
+        owned-registers = and-second (everyRow isRegisterSound (take m registers)) _ both-true
 
-        pub keys-alike : not d ≡ true → false ≡ areSound (take n slots) (take m registers)
+        pub keys-judged : d ≡ areSound (take n slots) (take m registers)
         unfolding areSound
-        keys-alike k = sym (rw (sound-slots, names-judged, not-false b i, sound-registers, keys-judged, not-true d k))
+        keys-judged =
+            let k : distinctRows isSameKey (take m registers) ≡ d = distinct-keys (take m registers) sound-registers ∙ ap (distinctRows isSameNumber) (sym (v (not-false c j))) ∙ sym s in
+            sym (rw (sound-slots, names-judged, not-false b i, sound-registers, k, owned-registers, and-true d))
 
-        pub owners-judged : not d ≡ false → (e : Bool) → e ≡ everyRow (isOwnedBy (take n names)) (take m registers) → e ≡ areSound (take n slots) (take m registers)
-        unfolding areSound
-        owners-judged k e f =
-            let g : everyRow (isOwned (take n slots)) (take m registers) ≡ e =
-            every-owned (take n slots) sound-slots (take m registers) ∙ ap (λ (l : List (List ℕ)). everyRow (isOwnedBy l) (take m registers)) (sym first-names) ∙ sym f in
-            sym (rw (sound-slots, names-judged, not-false b i, sound-registers, keys-judged, not-false d k, g))
+pub ruleset soundCases = (slots-unsound, names-alike, registers-unsound, keys-judged)

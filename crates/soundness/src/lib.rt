@@ -18,12 +18,10 @@ pub fn are_rows_sound(slots: [SlotRow; 8], n: usize, registers: [RegisterRow; 32
     if !slot_names::are_names_distinct(&names[..n]) {
         return false;
     }
-    if !register_tables::are_registers_sound(registers, m) {
+    let judged = register_keys::judge_registers(registers, m, &names[..n]);
+    if !judged.sound {
         return false;
     }
-    let keys = register_keys::keys_of(registers);
-    if !register_keys::are_keys_distinct(&keys[..m]) {
-        return false;
-    }
-    register_tables::are_registers_owned(registers, m, &names[..n])
+    let keys = judged.keys;
+    register_keys::are_keys_distinct(&keys[..m])
 }

@@ -1,3 +1,4 @@
 pub mod ClassLaws
 pub mod Identify
 pub mod Printable
+pub mod Zeros

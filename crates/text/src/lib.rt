@@ -1,7 +1,10 @@
 // Text: classes of bytes, and identifiers (document 01, "What the caller lends", "Records", "Cards"; 003 clause 5.1).
 ghost use mathlib.Core.Path.{_≡_};
+ghost use Prim.Native.Nat.{_≤_, _<_};
+ghost use lib.ListN.{length};
 ghost use Rattle.text.specs.Classes.{within, isAlphanumeric, isMark, isOf, areAll};
 ghost use Rattle.text.specs.Identifiers.{isIdentifier};
+ghost use Rattle.text.specs.declared.Class.the-variants.{Zero};
 
 // The classes of bytes that the papers name.
 pub enum Class {
@@ -86,6 +89,30 @@ pub fn are_all(class: Class, s: &[u8]) -> bool
             return false;
         }
         i += 1;
+    }
+    true
+}
+
+fn wide(b: u8) -> u64
+    ensures { λ r. ⌜ r ≡ b ⌝ }
+    ensures small { λ r. ⌜ r < 256 ⌝ }
+{
+    b as u64
+}
+
+// Whether every byte is zero. The bytes are added up and not tested one by one, since a sum is made of many bytes at a time.
+pub fn are_zeros(s: &[u8]) -> bool
+    requires { ⌜ length (now s) ≤ 65536 ⌝ }
+    ensures { λ r. ⌜ r ≡ areAll Zero (now (s .entry)) ⌝ }
+{
+    let mut sum: u64 = 0;
+    let mut i = 0;
+    while i < s.len() {
+        sum += wide(s[i]);
+        i += 1;
+    }
+    if sum != 0 {
+        return false;
     }
     true
 }

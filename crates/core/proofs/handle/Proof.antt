@@ -14,4 +14,4 @@ handle-spec =
     (λ c κs. search needs)
     (λ c κs. search changes)
     (λ c. search needs)
-    (λ c. (search outcome-right, (search responded, search rows-right))))
+    (λ c. (search outcome-right, (search responded, (search rows-right, search needs)))))

@@ -1,16 +1,14 @@
--- `register_rows::is_vacant` meets its contract: every byte is tested.
-use Rattle.rows.specs.Registers.{isVacant}
+-- `register_rows::is_vacant` meets its contract, a law a return.
+use Rattle.register_rows.proofs.RowLaws.{starts-filled, all-tested}
 use borrow.Author.Needs.{needs}
 use Rattle.register_rows.proofs.is_vacant.Statement.{statement}
 use Rattle.register_rows.proofs.is_vacant.Tie as tie
-
-returns : tie.Need-returns
-unfolding isVacant
-returns c = search needs
 
 pub is-vacant-spec : {M : Type 1} → statement M
 is-vacant-spec =
     tie.close
     (tie.spec
+    (λ c. search needs)
+    (λ c. search starts-filled)
     (λ c κs. search needs)
-    returns)
+    (λ c. search all-tested))

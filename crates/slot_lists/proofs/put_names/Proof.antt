@@ -3,15 +3,17 @@ use mathlib.Core.Path.{_≡_, refl}
 use Prim.Native.Nat.{_+_, _*_, _-_, _≤_}
 use borrow.Author.Needs.{needs}
 use lib.ListN.{length, drop, take}
+use Rattle.fields.specs.Values.{payloadBytes}
+use Rattle.rows.specs.Lists.{told}
 use Rattle.rows.specs.Reports.{slotNames, nameFields}
 use Rattle.rows.proofs.LoopLaws.{rows-cons, rows-end}
-use Rattle.rows.proofs.FieldLoops.{told, Remains, all-remains, told-turn, told-ended}
+use Rattle.rows.proofs.WriteLoops.{Remains, all-remains, told-turn, told-ended}
 use Rattle.slot_lists.proofs.ListedNames.{oneName, names-told}
 use Rattle.slot_lists.proofs.put_names.Statement.{statement}
 use Rattle.slot_lists.proofs.put_names.Tie as tie
 
 abbrev Inv-loop : tie.InvT-loop
-Inv-loop dst₀ at n slots end₀ i₀ dst end i = (length slots ≡ 8) × (n ≤ 8) × (i ≤ n) × (length dst ≡ length dst₀) × (end ≤ at + 42 * i) × Remains dst₀ at (nameFields (slotNames (take n slots))) dst end (told oneName i (drop i (take n slots)))
+Inv-loop dst₀ at n slots end₀ i₀ dst end i = (length slots ≡ 8) × (n ≤ 8) × (i ≤ n) × (length dst ≡ length dst₀) × (end ≤ at + 42 * i) × Remains dst₀ at (payloadBytes (nameFields (slotNames (take n slots)))) dst end (told oneName i (drop i (take n slots)))
 
 abbrev μ-loop : tie.MeasureT-loop
 μ-loop dst₀ at n slots end₀ i₀ dst end i = n - i

@@ -1,0 +1,157 @@
+-- An entry whose value has one length stands where its name, so many bytes in form and a semicolon stand.
+use mathlib.Core.Path.{_≡_, refl, sym, ap, _∙_}
+use mathlib.Core.Bool.{Bool, true, false, cond, not, _&&_}
+use mathlib.Core.List.{List, [], _∷_, _++_}
+use Prim.Native.Nat.{ℕ, zero, suc, _+_, _-_, _*_, _≤_, _<_}
+use native.Mathlib.Numerals.{add-one}
+use native.Mathlib.Omega.{arith}
+use lib.Dec.{eqb, ltb, leb}
+use lib.ListN.{length, getD, take, drop, length-drop, take-append-drop}
+use lib.Seq.{drop-drop, drop-cons, length-take-le, getD-take}
+use borrow.Author.Tests.{eq-eqb, lt-ltb, leb-true, ltb-true, eqb-true}
+use Rattle.octets.specs.Strings.{run, isNot, allOf}
+use Rattle.octets.proofs.Flags.{nope, and-first, and-second, and-both}
+use Rattle.octets.proofs.StringLaws.{drop-take, all-run}
+use Rattle.text.specs.Classes.{isOf, areAll}
+use Rattle.text.specs.declared.Class.the-variants.{Capital, Digit, Hexadecimal}
+use Rattle.text.proofs.ClassLaws.{class-plain}
+use Rattle.decimals.specs.Decimals.{decimal, isUnpadded, isNumber}
+use Rattle.decimals.proofs.NumberLaws.{number-short}
+use Rattle.timestamp.proofs.Plain.{timestamp-length}
+use Rattle.forms.specs.Forms.{isAlgorithm, inForm}
+use Rattle.forms.specs.declared.Form.{Form}
+use Rattle.forms.specs.declared.Form.the-variants.{Timestamp, Algorithm, Number, Digits, Hex, HexSome, Name, Empty}
+use Rattle.forms.proofs.FormBounds.{in-form-plain, semicolon}
+use Rattle.cards.specs.Entries.{nameOf}
+use Rattle.cards.proofs.EntryLaws.{name-length}
+use Rattle.stored_cards.specs.Stored.{entryLength}
+use Rattle.card_places.specs.Places.{startsWith, isLong}
+
+-- the length of a value in such a form
+number-some : (digits low high : ℕ) (v : List ℕ) → isNumber digits low high v ≡ true → 1 ≤ length v
+unfolding isNumber
+number-some digits low high v e =
+    leb-true 1 (length v) (and-first (leb 1 (length v)) (leb (length v) digits && (areAll Digit v && (isUnpadded v && (leb low (decimal v) && leb (decimal v) high)))) e)
+
+algorithm-two : (v : List ℕ) → isAlgorithm v ≡ true → length v ≡ 2
+unfolding isAlgorithm
+algorithm-two v e = eqb-true (length v) 2 (and-first (eqb (length v) 2) _ e)
+
+pub long-value : (f : Form) (n : ℕ) → isLong f n ≡ true → (v : List ℕ) → inForm f v ≡ true → length v ≡ n
+long-value Timestamp n w v e = timestamp-length v e ∙ sym (eqb-true n 16 w)
+long-value Algorithm n w v e = algorithm-two v e ∙ sym (eqb-true n 2 w)
+long-value (Number digits low high) n w v e =
+    let o = eqb-true digits 1 (and-first (eqb digits 1) (eqb n 1) w) in
+    let p = eqb-true n 1 (and-second (eqb digits 1) (eqb n 1) w) in
+    let i = and-second (leb digits 10) (isNumber digits low high v) e in
+    omega (arith, o, p, number-some digits low high v i, number-short digits low high v i)
+long-value (Digits k) n w v e = eqb-true (length v) k (and-first (eqb (length v) k) (areAll Digit v) e) ∙ eqb-true k n w
+long-value (Hex k) n w v e = eqb-true (length v) k (and-first (eqb (length v) k) (areAll Hexadecimal v) e) ∙ eqb-true k n w
+long-value HexSome n w v e = nope (cc)
+long-value Name n w v e = nope (cc)
+long-value Empty n w v e = eqb-true (length v) 0 e ∙ sym (eqb-true n 0 w)
+
+-- a name is read of its three bytes
+pub name-front : (t : List ℕ) (k : ℕ) → 3 ≤ k → nameOf (take k t) ≡ nameOf (take 3 t)
+unfolding nameOf
+name-front t k h =
+    rw (getD-take k t 0 0 (omega arith), getD-take k t 1 0 (omega arith), getD-take k t 2 0 (omega arith), getD-take 3 t 0 0 (omega arith), getD-take 3 t 1 0 (omega arith), getD-take 3 t 2 0 (omega arith))
+
+-- and has no semicolon
+some-if : (t : Bool) (n : ℕ) → 0 < cond t n 0 → t ≡ true
+some-if true n h = refl
+some-if false n h = absurd (omega arith)
+
+name-plain : (t : List ℕ) → 0 < nameOf (take 3 t) → allOf (isNot 59) (take 3 t) ≡ true
+unfolding nameOf areAll
+name-plain [] h = refl
+name-plain (a ∷ []) h = absurd (omega (arith, name-length (a ∷ []) h))
+name-plain (a ∷ b ∷ []) h = absurd (omega (arith, name-length (a ∷ b ∷ []) h))
+name-plain (a ∷ b ∷ c ∷ v) h =
+    let t = some-if (isOf Capital a && (isOf Capital b && isOf Capital c)) (a * 65536 + b * 256 + c) h in
+    let u = and-second (isOf Capital a) (isOf Capital b && isOf Capital c) t in
+    class-plain Capital 59 (a ∷ b ∷ c ∷ []) refl
+    (rw (and-first (isOf Capital a) (isOf Capital b && isOf Capital c) t, and-first (isOf Capital b) (isOf Capital c) u, and-second (isOf Capital b) (isOf Capital c) u))
+
+-- where a run of other bytes ends within the list, the delimiter stands
+pub run-at : (d : ℕ) (t : List ℕ) → run (isNot d) t < length t → getD t (run (isNot d) t) 0 ≡ d
+run-at d [] h = absurd (omega arith)
+run-at d (b ∷ bs) h = go (eqb b d) refl h (run-at d bs)
+  where
+    go : (q : Bool) → eqb b d ≡ q → cond (not q) (suc (run (isNot d) bs)) 0 < suc (length bs) → (run (isNot d) bs < length bs → getD bs (run (isNot d) bs) 0 ≡ d)
+        → getD (b ∷ bs) (cond (not q) (suc (run (isNot d) bs)) 0) 0 ≡ d
+    go true e w more = eqb-true b d e
+    go false e w more = more (omega arith)
+
+-- what is known of an entry whose value has n bytes
+pub record Framed (name : ℕ) (f : Form) (n : ℕ) (t : List ℕ) : Type 0 where
+  pub room : n + 4 ≤ length t
+  pub named : nameOf (take 3 t) ≡ name
+  pub ended : getD t (n + 3) 0 ≡ 59
+  pub value : inForm f (take n (drop 3 t)) ≡ true
+
+module _ (name : ℕ) (h : 0 < name) (f : Form) (n : ℕ) (w : isLong f n ≡ true) (t : List ℕ) where
+  module _ (e : startsWith name f t ≡ true) where
+    short : entryLength t < length t
+    unfolding startsWith
+    short = ltb-true (entryLength t) (length t) (and-first (ltb (entryLength t) (length t)) _ e)
+
+    entry : (eqb (nameOf (take (entryLength t) t)) name && inForm f (drop 3 (take (entryLength t) t))) ≡ true
+    unfolding startsWith
+    entry = and-second (ltb (entryLength t) (length t)) _ e
+
+    entry-named : nameOf (take (entryLength t) t) ≡ name
+    entry-named = eqb-true _ name (and-first (eqb (nameOf (take (entryLength t) t)) name) (inForm f (drop 3 (take (entryLength t) t))) entry)
+
+    entry-value : inForm f (drop 3 (take (entryLength t) t)) ≡ true
+    entry-value = and-second (eqb (nameOf (take (entryLength t) t)) name) (inForm f (drop 3 (take (entryLength t) t))) entry
+
+    entry-taken : length (take (entryLength t) t) ≡ entryLength t
+    entry-taken = length-take-le (entryLength t) t (omega (arith, short))
+
+    entry-three : 3 ≤ entryLength t
+    entry-three = omega (arith, entry-taken, name-length (take (entryLength t) t) (omega (arith, h, entry-named)))
+
+    pub entry-long : entryLength t ≡ n + 3
+    entry-long =
+        let l = long-value f n w (drop 3 (take (entryLength t) t)) entry-value in
+        omega (arith, l, length-drop 3 (take (entryLength t) t), entry-taken, entry-three)
+
+    pub entry-framed : Framed name f n t
+    entry-framed =
+        let k : entryLength t - 3 ≡ n = omega (arith, entry-long) in
+        record {
+          room = omega (arith, entry-long, short);
+          named = sym (name-front t (entryLength t) entry-three) ∙ entry-named;
+          ended = ap (λ (i : ℕ). getD t i 0) (sym entry-long) ∙ run-at 59 t short;
+          value = ap (λ (i : ℕ). inForm f (take i (drop 3 t))) (sym k) ∙ ap (inForm f) (sym (drop-take 3 (entryLength t) t)) ∙ entry-value;
+        }
+
+  -- and where that stands there is an entry
+  module _ (q : Framed name f n t) where
+    behind : drop n (drop 3 t) ≡ 59 ∷ drop (n + 4) t
+    behind =
+        let i : 3 + n ≡ n + 3 = omega arith in
+        let j : suc (n + 3) ≡ n + 4 = omega arith in
+        let d : drop n (drop 3 t) ≡ drop (n + 3) t = rw (drop-drop, i) in
+        d ∙ drop-cons t (n + 3) 0 (omega (arith, q .room)) ∙ rw (q .ended, j)
+
+    parts : t ≡ take 3 t ++ (take n (drop 3 t) ++ (59 ∷ drop (n + 4) t))
+    parts = sym (take-append-drop 3 t) ∙ ap (λ (l : List ℕ). take 3 t ++ l) (sym (take-append-drop n (drop 3 t)) ∙ ap (λ (l : List ℕ). take n (drop 3 t) ++ l) behind)
+
+    pub framed-long : entryLength t ≡ n + 3
+    framed-long =
+        let a = all-run (isNot 59) (take 3 t) (take n (drop 3 t) ++ (59 ∷ drop (n + 4) t)) (name-plain t (omega (arith, h, q .named))) in
+        let b = all-run (isNot 59) (take n (drop 3 t)) (59 ∷ drop (n + 4) t) (in-form-plain 59 semicolon f (take n (drop 3 t)) (q .value)) in
+        let x = length-take-le 3 t (omega (arith, q .room)) in
+        let y = length-take-le n (drop 3 t) (omega (arith, length-drop 3 t, q .room)) in
+        ap (run (isNot 59)) parts ∙ omega (arith, a, b, x, y)
+
+    pub framed-entry : startsWith name f t ≡ true
+    unfolding startsWith
+    framed-entry =
+        let s : ltb (entryLength t) (length t) ≡ true = lt-ltb (entryLength t) (length t) (omega (arith, framed-long, q .room)) in
+        let m : nameOf (take (entryLength t) t) ≡ name = name-front t (entryLength t) (omega (arith, framed-long)) ∙ q .named in
+        let k : entryLength t - 3 ≡ n = omega (arith, framed-long) in
+        let v : inForm f (drop 3 (take (entryLength t) t)) ≡ true = ap (inForm f) (drop-take 3 (entryLength t) t) ∙ ap (λ (i : ℕ). inForm f (take i (drop 3 t))) k ∙ q .value in
+        and-both (ltb (entryLength t) (length t)) _ s (and-both (eqb (nameOf (take (entryLength t) t)) name) _ (eq-eqb _ name m) v)

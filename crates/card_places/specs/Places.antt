@@ -1,0 +1,49 @@
+-- Where the entries of a stored card stand, which are those of the table in its sequence (document 01, Cards). Places are counted from 0.
+use Prim.Native.Nat.{ℕ, _+_}
+use mathlib.Core.Bool.{Bool, cond, _&&_, false}
+use mathlib.Core.List.{List, [], _∷_}
+use lib.Dec.{eqb, leb, ltb}
+use lib.ListN.{length, getD, take, drop}
+use Rattle.text.specs.Classes.{areAll}
+use Rattle.text.specs.declared.Class.the-variants.{Zero}
+use Rattle.forms.specs.Forms.{inForm}
+use Rattle.forms.specs.declared.Form.{Form}
+use Rattle.forms.specs.declared.Form.the-variants.{Timestamp, Algorithm, Number, Digits, Hex, HexSome, Name, Empty}
+use Rattle.cards.specs.Entries.{nameOf}
+use Rattle.attributes.specs.Table.{name, form}
+use Rattle.attributes.specs.declared.Attribute.{Attribute}
+use Rattle.stored_cards.specs.Stored.{entryLength}
+
+-- s starts with an entry of the name, its value in form
+unfoldable pub startsWith : ℕ → Form → List ℕ → Bool
+startsWith n f s =
+    ltb (entryLength s) (length s) && (eqb (nameOf (take (entryLength s) s)) n && inForm f (drop 3 (take (entryLength s) s)))
+
+-- the place after such an entry that stands at a place; beyond the end, where nothing stands, if there is none
+unfoldable pub after : ℕ → Form → List ℕ → ℕ → ℕ
+after n f s at = cond (startsWith n f (drop at s)) (at + (entryLength (drop at s) + 1)) (length s + 1)
+
+-- the place after an entry for each attribute, the first at a place
+abbrev pub afterAll : List Attribute → List ℕ → ℕ → ℕ
+afterAll [] s at = at
+afterAll (a ∷ rs) s at = afterAll rs s (after (name a) (form a) s at)
+
+-- every value of the form has n bytes
+abbrev pub isLong : Form → ℕ → Bool
+isLong Timestamp n = eqb n 16
+isLong Algorithm n = eqb n 2
+isLong (Number digits low high) n = eqb digits 1 && eqb n 1
+isLong (Digits k) n = eqb k n
+isLong (Hex k) n = eqb k n
+isLong HexSome n = false
+isLong Name n = false
+isLong Empty n = eqb n 0
+
+-- a name, n bytes and a semicolon stand at a place
+unfoldable pub isFramed : ℕ → ℕ → List ℕ → ℕ → Bool
+isFramed name n s at =
+    leb (at + (n + 4)) (length s) && (eqb (nameOf (take 3 (drop at s))) name && eqb (getD s (at + (n + 3)) 0) 59)
+
+-- s is 256 bytes, and from a place within them on only zeros stand
+unfoldable pub isClear : List ℕ → ℕ → Bool
+isClear s at = eqb (length s) 256 && (leb at (length s) && areAll Zero (drop at s))

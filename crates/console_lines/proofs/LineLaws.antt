@@ -1,0 +1,282 @@
+-- The cases of a line, each with what the code knows where it answers as premises.
+use mathlib.Core.Path.{_≡_, refl, sym, ap, _∙_}
+use mathlib.Core.Bool.{Bool, true, false, not, cond, _&&_}
+use mathlib.Core.List.{List, [], _∷_}
+use Prim.Native.Nat.{ℕ, _-_, _≤_, _<_}
+use native.Mathlib.Omega.{arith}
+use lib.Dec.{leb}
+use lib.ListN.{length, getD}
+use types.Run.{OneOf, miss}
+use denote.Enum.Declared.{tagOf}
+use borrow.Author.Tests.{le-leb, lt-leb, le-ltb, lt-ltb, eq-eqb, ne-eqb, not-true, not-false}
+use Rattle.octets.specs.Strings.{sameBytes}
+use Rattle.octets.proofs.Flags.{and-first, and-second}
+use Rattle.decimals.specs.Decimals.{decimal, isNumber}
+use Rattle.decimals.proofs.NumberLaws.{number-short, number-most, number-least}
+use Rattle.fields.specs.Values.{isOctets}
+use Rattle.identities.proofs.Chain.{form-of}
+use Rattle.console_words.specs.Words.{word, rest, hasRest}
+use Rattle.console_words.specs.Verbs.{verbOf}
+use Rattle.console_words.specs.declared.Part.{Part}
+use Rattle.console_words.specs.declared.Verb.{Verb}
+use Rattle.console_words.specs.declared.Verb.the-variants as verb
+use Rattle.console_words.proofs.Verb.{the-type}
+use Rattle.console_lines.specs.Lines.{areTables, tablesLine, bufferLine, partLine, passedLine, sendLine, rawLine, isSlotRow, isSlot, slotLine, isRegister, registerLine, usableLine, aloneLine, restLine, lineOf}
+use Rattle.console_lines.specs.declared.Line.{Line}
+use Rattle.console_lines.specs.declared.Line.the-variants.{Nothing, Tables, Buffer, Set, Passed, Send, Raw, Slot, Register, Rows, Usable, Show, Other}
+
+-- a word that was cut out, judged
+pub cut-number : (v w : List ℕ) (digits low high : ℕ) → v ≡ w → (t : Bool) → t ≡ isNumber digits low high v → t ≡ isNumber digits low high w
+cut-number v w digits low high e t p = rw (← e) p
+
+pub cut-row : (v w : List ℕ) → v ≡ w → (t : Bool) → t ≡ isSlotRow v → t ≡ isSlotRow w
+cut-row v w e t p = rw (← e) p
+
+-- the word, and the rest, after the first word
+module _ (s u v : List ℕ) (e : u ≡ rest s) where
+  pub second-word : v ≡ word u → v ≡ word (rest s)
+  second-word p = rw (← e) p
+
+  pub second-rest : v ≡ rest u → v ≡ rest (rest s)
+  second-rest p = rw (← e) p
+
+pub ruleset cuts = (cut-number, cut-row, form-of, second-word, second-rest)
+
+-- a number of at most ten digits can be read, and is at most the highest
+module _ (digits low high : ℕ) (v w : List ℕ) (e : v ≡ w) (p : isNumber digits low high w ≡ true) where
+  pub short : digits ≤ 10 → length v ≤ 10
+  short h = rw e (omega (arith, h, number-short digits low high w p))
+
+  pub small : (n : ℕ) → n ≡ decimal v → n ≤ high
+  small n q = rw (q, e) (number-most digits low high w p)
+
+  pub large : (n : ℕ) → n ≡ decimal v → low ≤ n
+  large n q = rw (q, e) (number-least digits low high w p)
+
+-- tables
+module _ (r : List ℕ) (t : Bool) (p : t ≡ areTables r) where
+  pub no-tables : not t ≡ true → Other ≡ tablesLine r
+  unfolding tablesLine
+  no-tables o = rw (← p, not-true t o)
+
+  module _ (o : not t ≡ false) where
+    holds : areTables r ≡ true
+    holds = sym p ∙ not-false t o
+
+    pub slots-short : (v : List ℕ) → v ≡ word r → length v ≤ 10
+    unfolding areTables
+    slots-short v e = short 1 0 9 v (word r) e (and-first (isNumber 1 0 9 (word r)) (isNumber 2 0 33 (rest r)) holds) (omega arith)
+
+    pub registers-short : (v : List ℕ) → v ≡ rest r → length v ≤ 10
+    unfolding areTables
+    registers-short v e = short 2 0 33 v (rest r) e (and-second (isNumber 1 0 9 (word r)) (isNumber 2 0 33 (rest r)) holds) (omega arith)
+
+    pub a-table : (v w : List ℕ) → v ≡ word r → w ≡ rest r → (m n : ℕ) → m ≡ decimal v → n ≡ decimal w → Tables m n ≡ tablesLine r
+    unfolding tablesLine
+    a-table v w e f m n q s = rw (← p, not-false t o, q, s, e, f)
+
+pub ruleset tablesCases = (no-tables, slots-short, registers-short, a-table)
+
+-- one number
+module _ (r : List ℕ) (t : Bool) where
+  module _ (p : t ≡ isNumber 4 0 2048 r) where
+    pub no-buffer : not t ≡ true → Other ≡ bufferLine r
+    unfolding bufferLine
+    no-buffer o = rw (← p, not-true t o)
+
+    pub a-buffer : not t ≡ false → (n : ℕ) → n ≡ decimal r → Buffer n ≡ bufferLine r
+    unfolding bufferLine
+    a-buffer o n q = rw (← p, not-false t o, q)
+
+    pub buffer-short : not t ≡ false → length r ≤ 10
+    buffer-short o = short 4 0 2048 r r refl (sym p ∙ not-false t o) (omega arith)
+
+  module _ (p : t ≡ isNumber 10 0 2147483647 r) where
+    pub no-usable : not t ≡ true → Other ≡ usableLine r
+    unfolding usableLine
+    no-usable o = rw (← p, not-true t o)
+
+    pub a-usable : not t ≡ false → (n : ℕ) → n ≡ decimal r → Usable n ≡ usableLine r
+    unfolding usableLine
+    a-usable o n q = rw (← p, not-false t o, q)
+
+    pub usable-short : not t ≡ false → length r ≤ 10
+    usable-short o = short 10 0 2147483647 r r refl (sym p ∙ not-false t o) (omega arith)
+
+pub ruleset numberLines = (no-buffer, a-buffer, buffer-short, no-usable, a-usable, usable-short)
+
+-- lengths
+module _ (r : List ℕ) where
+  pub long-part : (p : Part) → 1024 < length r → Other ≡ partLine p r
+  unfolding partLine
+  long-part p h = rw (lt-leb (length r) 1024 h)
+
+  pub a-part : (p : Part) → length r ≤ 1024 → Set p ≡ partLine p r
+  unfolding partLine
+  a-part p h = rw (le-leb (length r) 1024 h)
+
+  pub long-send : 2043 < length r → Other ≡ sendLine r
+  unfolding sendLine
+  long-send h = rw (lt-leb (length r) 2043 h)
+
+  pub a-send : length r ≤ 2043 → Send ≡ sendLine r
+  unfolding sendLine
+  a-send h = rw (le-leb (length r) 2043 h)
+
+  pub long-raw : 4092 < length r → Other ≡ rawLine r
+  unfolding rawLine
+  long-raw h = rw (lt-leb (length r) 4092 h)
+
+  module _ (h : length r ≤ 4092) (t : Bool) (p : t ≡ isOctets r) where
+    pub no-raw : not t ≡ true → Other ≡ rawLine r
+    unfolding rawLine
+    no-raw o = rw (le-leb (length r) 4092 h, ← p, not-true t o)
+
+    pub a-raw : not t ≡ false → Raw ≡ rawLine r
+    unfolding rawLine
+    a-raw o = rw (le-leb (length r) 4092 h, ← p, not-false t o)
+
+pub ruleset lengthLines = (long-part, a-part, long-send, a-send, long-raw, no-raw, a-raw)
+
+-- passed
+module _ (r : List ℕ) (t : Bool) (p : t ≡ sameBytes r (121 ∷ 101 ∷ 115 ∷ [])) where
+  pub says-yes : t ≡ true → Passed 1 ≡ passedLine r
+  unfolding passedLine
+  says-yes o = rw (← p, o)
+
+  module _ (o : t ≡ false) (u : Bool) (q : u ≡ sameBytes r (110 ∷ 111 ∷ [])) where
+    pub says-no : u ≡ true → Passed 0 ≡ passedLine r
+    unfolding passedLine
+    says-no s = rw (← p, o, ← q, s)
+
+    pub says-neither : u ≡ false → Other ≡ passedLine r
+    unfolding passedLine
+    says-neither s = rw (← p, o, ← q, s)
+
+pub ruleset passedCases = (says-yes, says-no, says-neither)
+
+-- slot
+module _ (r : List ℕ) (t : Bool) (p : t ≡ isSlot r) where
+  pub no-slot : not t ≡ true → Other ≡ slotLine r
+  unfolding slotLine
+  no-slot o = rw (← p, not-true t o)
+
+  module _ (o : not t ≡ false) where
+    numbers : (isNumber 1 1 8 (word r) && (isNumber 3 0 255 (word (rest r)) && isSlotRow (rest (rest r)))) ≡ true
+    unfolding isSlot
+    numbers = sym p ∙ not-false t o
+
+    state-number : isNumber 3 0 255 (word (rest r)) ≡ true
+    state-number = and-first (isNumber 3 0 255 (word (rest r))) (isSlotRow (rest (rest r))) (and-second (isNumber 1 1 8 (word r)) _ numbers)
+
+    row-number : isNumber 1 1 8 (word r) ≡ true
+    row-number = and-first (isNumber 1 1 8 (word r)) (isNumber 3 0 255 (word (rest r)) && isSlotRow (rest (rest r))) numbers
+
+    module _ (v : List ℕ) (e : v ≡ word r) where
+      pub row-short : length v ≤ 10
+      row-short = short 1 1 8 v (word r) e row-number (omega arith)
+
+      pub from-one : (n : ℕ) → n ≡ decimal v → 1 ≤ n
+      from-one n q = large 1 1 8 v (word r) e row-number n q
+
+    module _ (w v : List ℕ) (e : w ≡ rest r) (f : v ≡ word w) where
+      second : v ≡ word (rest r)
+      second = f ∙ ap word e
+
+      pub state-short : length v ≤ 10
+      state-short = short 3 0 255 v (word (rest r)) second state-number (omega arith)
+
+      pub state-small : (n : ℕ) → n ≡ decimal v → n < 256
+      state-small n q = omega (arith, small 3 0 255 v (word (rest r)) second state-number n q)
+
+      pub a-slot : (u : List ℕ) → u ≡ word r → (m n : ℕ) → m ≡ decimal u → n ≡ decimal v → Slot (m - 1) n ≡ slotLine r
+      unfolding slotLine
+      a-slot u g m n q s = rw (← p, not-false t o, q, s, g, second)
+
+pub ruleset slotCases = (no-slot, row-short, from-one, state-short, state-small, a-slot)
+
+-- register
+module _ (r : List ℕ) (t : Bool) (p : t ≡ isRegister r) where
+  pub no-register : not t ≡ true → Other ≡ registerLine r
+  unfolding registerLine
+  no-register o = rw (← p, not-true t o)
+
+  module _ (o : not t ≡ false) (v : List ℕ) (e : v ≡ word r) where
+    pub register-short : length v ≤ 10
+    unfolding isRegister
+    register-short = short 2 1 32 v (word r) e (and-first (isNumber 2 1 32 (word r)) _ (sym p ∙ not-false t o)) (omega arith)
+
+    pub register-from-one : (n : ℕ) → n ≡ decimal v → 1 ≤ n
+    unfolding isRegister
+    register-from-one n q = large 2 1 32 v (word r) e (and-first (isNumber 2 1 32 (word r)) _ (sym p ∙ not-false t o)) n q
+
+    pub a-register : (m : ℕ) → m ≡ decimal v → Register (m - 1) ≡ registerLine r
+    unfolding registerLine
+    a-register m q = rw (← p, not-false t o, q, e)
+
+pub ruleset registerCases = (no-register, register-short, register-from-one, a-register)
+
+-- the verbs that no line has alone, and those that are never followed by a space
+abbrev never-alone : List ℕ
+never-alone = 0 ∷ 1 ∷ 2 ∷ 3 ∷ 4 ∷ 6 ∷ 7 ∷ 9 ∷ 11 ∷ []
+
+pub other-alone : (v : Verb) → OneOf never-alone (tagOf the-type v) → Other ≡ aloneLine v
+other-alone verb.Tables o = refl
+other-alone verb.Buffer o = refl
+other-alone (verb.Set p) o = refl
+other-alone verb.Passed o = refl
+other-alone verb.Send o = refl
+other-alone verb.Raw o = absurd (miss never-alone 5 tt o)
+other-alone verb.Slot o = refl
+other-alone verb.Register o = refl
+other-alone verb.Rows o = absurd (miss never-alone 8 tt o)
+other-alone verb.Usable o = refl
+other-alone verb.Show o = absurd (miss never-alone 10 tt o)
+other-alone verb.Unknown o = refl
+
+abbrev only-alone : List ℕ
+only-alone = 8 ∷ 10 ∷ 11 ∷ []
+
+pub other-rest : (v : Verb) (r : List ℕ) → OneOf only-alone (tagOf the-type v) → Other ≡ restLine v r
+other-rest verb.Tables r o = absurd (miss only-alone 0 tt o)
+other-rest verb.Buffer r o = absurd (miss only-alone 1 tt o)
+other-rest (verb.Set p) r o = absurd (miss only-alone 2 tt o)
+other-rest verb.Passed r o = absurd (miss only-alone 3 tt o)
+other-rest verb.Send r o = absurd (miss only-alone 4 tt o)
+other-rest verb.Raw r o = absurd (miss only-alone 5 tt o)
+other-rest verb.Slot r o = absurd (miss only-alone 6 tt o)
+other-rest verb.Register r o = absurd (miss only-alone 7 tt o)
+other-rest verb.Rows r o = refl
+other-rest verb.Usable r o = absurd (miss only-alone 9 tt o)
+other-rest verb.Show r o = refl
+other-rest verb.Unknown r o = refl
+
+pub arm : (v w : Verb) → v ≡ w → (r : List ℕ) (a : Line) → a ≡ restLine w r → a ≡ restLine v r
+arm v w e r a p = rw e p
+
+-- line_of
+module _ (l : List ℕ) where
+  pub empty : length l ≡ 0 → Nothing ≡ lineOf l
+  unfolding lineOf
+  empty h = rw (eq-eqb (length l) 0 h)
+
+  module _ (h : length l ≡ 0 → ⊥) where
+    pub too-long : 4096 < length l → Other ≡ lineOf l
+    unfolding lineOf
+    too-long m = rw (ne-eqb (length l) 0 h, lt-ltb 4096 (length l) m)
+
+    module _ (m : length l ≤ 4096) where
+      pub comment : getD l 0 0 ≡ 35 → Nothing ≡ lineOf l
+      unfolding lineOf
+      comment e = rw (ne-eqb (length l) 0 h, le-ltb 4096 (length l) m, eq-eqb (getD l 0 0) 35 e)
+
+      module _ (n : getD l 0 0 ≡ 35 → ⊥) (u : List ℕ) (w : u ≡ word l) (v : Verb) (p : v ≡ verbOf u) (t : Bool) (q : t ≡ hasRest l) where
+        pub of-more : t ≡ true → (r : List ℕ) → r ≡ rest l → (a : Line) → a ≡ restLine v r → a ≡ lineOf l
+        unfolding lineOf
+        of-more o r f a z = rw (ne-eqb (length l) 0 h, le-ltb 4096 (length l) m, ne-eqb (getD l 0 0) 35 n, ← q, o, ← w, ← p, ← f) z
+
+        pub of-one : t ≡ false → (a : Line) → a ≡ aloneLine v → a ≡ lineOf l
+        unfolding lineOf
+        of-one o a z = rw (ne-eqb (length l) 0 h, le-ltb 4096 (length l) m, ne-eqb (getD l 0 0) 35 n, ← q, o, ← w, ← p) z
+
+pub ruleset lineCases = (empty, too-long, comment, of-more, of-one)

@@ -1,0 +1,26 @@
+-- `console_lines::are_tables` meets its contract: a chain of two tests.
+use Rattle.identities.proofs.Chain.{chain}
+use Rattle.console_lines.specs.Lines.{areTables}
+use Rattle.console_lines.proofs.LineLaws.{cuts}
+use borrow.Author.Needs.{needs}
+use Rattle.console_lines.proofs.are_tables.Statement.{statement}
+use Rattle.console_lines.proofs.are_tables.Tie as tie
+
+returns : tie.Need-returns
+unfolding areTables
+returns c = search (chain, cuts)
+
+returns-2 : tie.Need-returns-2
+unfolding areTables
+returns-2 c = search (chain, cuts)
+
+pub are-tables-spec : {M : Type 1} → statement M
+are-tables-spec =
+    tie.close
+    (tie.spec
+    (λ c κs. search needs)
+    (λ c κs. search needs)
+    returns
+    (λ c κs. search needs)
+    (λ c κs. search needs)
+    returns-2)

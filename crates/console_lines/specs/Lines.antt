@@ -1,0 +1,104 @@
+-- What a line asks for (docs/CONSOLE.md). r is what stands after its first space. A row is a place among the rows, counted from 0.
+use Prim.Native.Nat.{ℕ, _-_}
+use mathlib.Core.Bool.{Bool, cond, _&&_}
+use mathlib.Core.List.{List, [], _∷_}
+use lib.Dec.{eqb, ltb, leb}
+use lib.ListN.{length, getD}
+use Rattle.octets.specs.Strings.{sameBytes}
+use Rattle.decimals.specs.Decimals.{decimal, isNumber}
+use Rattle.fields.specs.Values.{isOctets}
+use Rattle.forms.specs.Forms.{inForm}
+use Rattle.forms.specs.declared.Form.the-variants.{Hex}
+use Rattle.console_words.specs.Words.{word, rest, hasRest}
+use Rattle.console_words.specs.Verbs.{verbOf}
+use Rattle.console_words.specs.declared.Part.{Part}
+use Rattle.console_words.specs.declared.Verb.{Verb}
+use Rattle.console_words.specs.declared.Verb.the-variants as verb
+use Rattle.console_lines.specs.declared.Line.{Line}
+use Rattle.console_lines.specs.declared.Line.the-variants.{Nothing, Tables, Buffer, Set, Passed, Send, Raw, Slot, Register, Rows, Usable, Show, Other}
+
+-- tables S R: S from 0 to 9, R from 0 to 33
+unfoldable pub areTables : List ℕ → Bool
+areTables r = isNumber 1 0 9 (word r) && isNumber 2 0 33 (rest r)
+
+unfoldable pub tablesLine : List ℕ → Line
+tablesLine r = cond (areTables r) (Tables (decimal (word r)) (decimal (rest r))) Other
+
+-- buffer N: from 0 to 2048
+unfoldable pub bufferLine : List ℕ → Line
+bufferLine r = cond (isNumber 4 0 2048 r) (Buffer (decimal r)) Other
+
+-- a part of the supplement: at most 1,024 bytes
+unfoldable pub partLine : Part → List ℕ → Line
+partLine p r = cond (leb (length r) 1024) (Set p) Other
+
+-- passed yes, passed no
+unfoldable pub passedLine : List ℕ → Line
+passedLine r = cond (sameBytes r (121 ∷ 101 ∷ 115 ∷ [])) (Passed 1) (cond (sameBytes r (110 ∷ 111 ∷ [])) (Passed 0) Other)
+
+-- send X: with checksum and carriage return at most 2,048 bytes
+unfoldable pub sendLine : List ℕ → Line
+sendLine r = cond (leb (length r) 2043) Send Other
+
+-- raw H: at most 2,046 bytes, two digits each
+unfoldable pub rawLine : List ℕ → Line
+rawLine r = cond (leb (length r) 4092 && isOctets r) Raw Other
+
+-- NAME FINGERPRINT TVP: 40, 16 and 16 bytes, two digits each
+unfoldable pub isSlotRow : List ℕ → Bool
+isSlotRow d = inForm (Hex 80) (word d) && (inForm (Hex 32) (word (rest d)) && inForm (Hex 32) (rest (rest d)))
+
+-- slot K S NAME FINGERPRINT TVP: K from 1 to 8, S from 0 to 255
+unfoldable pub isSlot : List ℕ → Bool
+isSlot r = isNumber 1 1 8 (word r) && (isNumber 3 0 255 (word (rest r)) && isSlotRow (rest (rest r)))
+
+unfoldable pub slotLine : List ℕ → Line
+slotLine r = cond (isSlot r) (Slot (decimal (word r) - 1) (decimal (word (rest r)))) Other
+
+-- register K CARD: K from 1 to 32, 256 bytes
+unfoldable pub isRegister : List ℕ → Bool
+isRegister r = isNumber 2 1 32 (word r) && inForm (Hex 512) (rest r)
+
+unfoldable pub registerLine : List ℕ → Line
+registerLine r = cond (isRegister r) (Register (decimal (word r) - 1)) Other
+
+-- usable K: from 0 to 2147483647
+unfoldable pub usableLine : List ℕ → Line
+usableLine r = cond (isNumber 10 0 2147483647 r) (Usable (decimal r)) Other
+
+-- a line of one word
+abbrev pub aloneLine : Verb → Line
+aloneLine verb.Raw = Raw
+aloneLine verb.Rows = Rows
+aloneLine verb.Show = Show
+aloneLine verb.Tables = Other
+aloneLine verb.Buffer = Other
+aloneLine (verb.Set p) = Other
+aloneLine verb.Passed = Other
+aloneLine verb.Send = Other
+aloneLine verb.Slot = Other
+aloneLine verb.Register = Other
+aloneLine verb.Usable = Other
+aloneLine verb.Unknown = Other
+
+-- a line whose first word is followed by a space
+abbrev pub restLine : Verb → List ℕ → Line
+restLine verb.Tables r = tablesLine r
+restLine verb.Buffer r = bufferLine r
+restLine (verb.Set p) r = partLine p r
+restLine verb.Passed r = passedLine r
+restLine verb.Send r = sendLine r
+restLine verb.Raw r = rawLine r
+restLine verb.Slot r = slotLine r
+restLine verb.Register r = registerLine r
+restLine verb.Usable r = usableLine r
+restLine verb.Rows r = Other
+restLine verb.Show r = Other
+restLine verb.Unknown r = Other
+
+unfoldable pub lineOf : List ℕ → Line
+lineOf l =
+    cond (eqb (length l) 0) Nothing
+    (cond (ltb 4096 (length l)) Other
+    (cond (eqb (getD l 0 0) 35) Nothing
+    (cond (hasRest l) (restLine (verbOf (word l)) (rest l)) (aloneLine (verbOf (word l))))))

@@ -1,0 +1,209 @@
+// A line of the console (docs/CONSOLE.md): what it asks for. What it asks it with stands after its first space, and is not in the answer.
+use console_words::Part;
+use console_words::Verb;
+use forms::Form;
+ghost use mathlib.Core.Path.{_≡_};
+ghost use Rattle.console_lines.specs.Lines.{areTables, tablesLine, bufferLine, partLine, passedLine, sendLine, rawLine, isSlotRow, isSlot, slotLine, isRegister, registerLine, usableLine, aloneLine, restLine, lineOf};
+
+// What a line asks for. A row is a place among the rows, counted from 0.
+pub enum Line {
+    Nothing,
+    Tables { slots: usize, registers: usize },
+    Buffer(usize),
+    Set(Part),
+    Passed(u8),
+    Send,
+    Raw,
+    Slot { row: usize, state: u8 },
+    Register(usize),
+    Rows,
+    Usable(usize),
+    Show,
+    Other,
+}
+
+fn tables_line(r: &[u8]) -> Line
+    ensures { λ a. ⌜ a ≡ tablesLine (now (r .entry)) ⌝ }
+{
+    if !are_tables(r) {
+        return Line::Other;
+    }
+    Line::Tables {
+        slots: decimals::decimal(console_words::word(r)) as usize,
+        registers: decimals::decimal(console_words::rest(r)) as usize,
+    }
+}
+
+fn are_tables(r: &[u8]) -> bool
+    ensures { λ a. ⌜ a ≡ areTables (now (r .entry)) ⌝ }
+{
+    if !decimals::is_number(1, 0, 9, console_words::word(r)) {
+        return false;
+    }
+    decimals::is_number(2, 0, 33, console_words::rest(r))
+}
+
+fn buffer_line(r: &[u8]) -> Line
+    ensures { λ a. ⌜ a ≡ bufferLine (now (r .entry)) ⌝ }
+{
+    if !decimals::is_number(4, 0, 2048, r) {
+        return Line::Other;
+    }
+    Line::Buffer(decimals::decimal(r) as usize)
+}
+
+fn part_line(p: Part, r: &[u8]) -> Line
+    ensures { λ a. ⌜ a ≡ partLine p (now (r .entry)) ⌝ }
+{
+    if 1024 < r.len() {
+        return Line::Other;
+    }
+    Line::Set(p)
+}
+
+fn passed_line(r: &[u8]) -> Line
+    ensures { λ a. ⌜ a ≡ passedLine (now (r .entry)) ⌝ }
+{
+    if octets::same_bytes(r, b"yes") {
+        return Line::Passed(1);
+    }
+    if octets::same_bytes(r, b"no") {
+        return Line::Passed(0);
+    }
+    Line::Other
+}
+
+fn send_line(r: &[u8]) -> Line
+    ensures { λ a. ⌜ a ≡ sendLine (now (r .entry)) ⌝ }
+{
+    if 2043 < r.len() {
+        return Line::Other;
+    }
+    Line::Send
+}
+
+fn raw_line(r: &[u8]) -> Line
+    ensures { λ a. ⌜ a ≡ rawLine (now (r .entry)) ⌝ }
+{
+    if 4092 < r.len() {
+        return Line::Other;
+    }
+    if !fields::is_octets(r) {
+        return Line::Other;
+    }
+    Line::Raw
+}
+
+// Whether the three words of digits are those of a slot row.
+fn is_slot_row(d: &[u8]) -> bool
+    ensures { λ a. ⌜ a ≡ isSlotRow (now (d .entry)) ⌝ }
+{
+    if !forms::in_form(Form::Hex(80), console_words::word(d)) {
+        return false;
+    }
+    if !forms::in_form(Form::Hex(32), console_words::word(console_words::rest(d))) {
+        return false;
+    }
+    forms::in_form(Form::Hex(32), console_words::rest(console_words::rest(d)))
+}
+
+fn is_slot(r: &[u8]) -> bool
+    ensures { λ a. ⌜ a ≡ isSlot (now (r .entry)) ⌝ }
+{
+    if !decimals::is_number(1, 1, 8, console_words::word(r)) {
+        return false;
+    }
+    if !decimals::is_number(3, 0, 255, console_words::word(console_words::rest(r))) {
+        return false;
+    }
+    is_slot_row(console_words::rest(console_words::rest(r)))
+}
+
+fn slot_line(r: &[u8]) -> Line
+    ensures { λ a. ⌜ a ≡ slotLine (now (r .entry)) ⌝ }
+{
+    if !is_slot(r) {
+        return Line::Other;
+    }
+    Line::Slot {
+        row: decimals::decimal(console_words::word(r)) as usize - 1,
+        state: decimals::decimal(console_words::word(console_words::rest(r))) as u8,
+    }
+}
+
+fn is_register(r: &[u8]) -> bool
+    ensures { λ a. ⌜ a ≡ isRegister (now (r .entry)) ⌝ }
+{
+    if !decimals::is_number(2, 1, 32, console_words::word(r)) {
+        return false;
+    }
+    forms::in_form(Form::Hex(512), console_words::rest(r))
+}
+
+fn register_line(r: &[u8]) -> Line
+    ensures { λ a. ⌜ a ≡ registerLine (now (r .entry)) ⌝ }
+{
+    if !is_register(r) {
+        return Line::Other;
+    }
+    Line::Register(decimals::decimal(console_words::word(r)) as usize - 1)
+}
+
+fn usable_line(r: &[u8]) -> Line
+    ensures { λ a. ⌜ a ≡ usableLine (now (r .entry)) ⌝ }
+{
+    if !decimals::is_number(10, 0, 2147483647, r) {
+        return Line::Other;
+    }
+    Line::Usable(decimals::decimal(r) as usize)
+}
+
+// A line of one word.
+fn alone_line(v: Verb) -> Line
+    ensures { λ a. ⌜ a ≡ aloneLine v ⌝ }
+{
+    match v {
+        Verb::Raw => Line::Raw,
+        Verb::Rows => Line::Rows,
+        Verb::Show => Line::Show,
+        _ => Line::Other,
+    }
+}
+
+// A line whose first word is followed by a space.
+fn rest_line(v: Verb, r: &[u8]) -> Line
+    ensures { λ a. ⌜ a ≡ restLine v (now (r .entry)) ⌝ }
+{
+    match v {
+        Verb::Tables => tables_line(r),
+        Verb::Buffer => buffer_line(r),
+        Verb::Set(p) => part_line(p, r),
+        Verb::Passed => passed_line(r),
+        Verb::Send => send_line(r),
+        Verb::Raw => raw_line(r),
+        Verb::Slot => slot_line(r),
+        Verb::Register => register_line(r),
+        Verb::Usable => usable_line(r),
+        _ => Line::Other,
+    }
+}
+
+// What a line asks for.
+pub fn line_of(l: &[u8]) -> Line
+    ensures { λ a. ⌜ a ≡ lineOf (now (l .entry)) ⌝ }
+{
+    if l.len() == 0 {
+        return Line::Nothing;
+    }
+    if 4096 < l.len() {
+        return Line::Other;
+    }
+    if l[0] == 35 {
+        return Line::Nothing;
+    }
+    let v = console_words::verb_of(console_words::word(l));
+    if console_words::has_rest(l) {
+        return rest_line(v, console_words::rest(l));
+    }
+    alone_line(v)
+}

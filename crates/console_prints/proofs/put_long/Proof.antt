@@ -1,0 +1,14 @@
+-- `console_prints::put_long` meets its contract: the digits and a space.
+use Rattle.octets.proofs.Writes.{then}
+use borrow.Author.Needs.{needs}
+use Rattle.console_prints.proofs.put_long.Statement.{statement}
+use Rattle.console_prints.proofs.put_long.Tie as tie
+
+pub put-long-spec : {M : Type 1} → statement M
+put-long-spec =
+    tie.close
+    (tie.spec
+    (λ c κs. search needs)
+    (λ c κs. search needs)
+    (λ c. search needs)
+    (λ c. (search then, search needs)))

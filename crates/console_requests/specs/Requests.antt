@@ -1,0 +1,31 @@
+-- A request that the console hands in (docs/CONSOLE.md): the call that it makes, the state after it, and the line of its answer.
+use Prim.Native.Nat.{ℕ}
+use mathlib.Core.Bool.{cond}
+use mathlib.Core.List.{List}
+use lib.Dec.{leb}
+use Rattle.octets.specs.Wrote.{Wrote}
+use Rattle.rows.specs.Places.{slotRows}
+use Rattle.rows.specs.Reports.{InSomeSequence}
+use Rattle.engine.specs.Questions.{Call}
+use Rattle.engine.specs.Answers.{answerOf}
+use Rattle.engine.specs.Calls.{callIn, tablesAfter}
+use Rattle.console_state.specs.State.{withTables}
+use Rattle.console_state.specs.declared.Console.{Console}
+use Rattle.console_prints.specs.Prints.{answerLine}
+
+-- how many bytes of response buffer are lent; `buffer` sets at most 2,048
+unfoldable pub room : Console → ℕ
+room c = cond (leb (c .room) 2048) (c .room) 2048
+
+-- the call that a request makes
+abbrev pub callBy : Console → List ℕ → Call
+callBy c request = callIn (c .tables) (c .supplement) request (room c)
+
+-- the state after a request
+abbrev pub answeredBy : Console → List ℕ → Console
+answeredBy c request = withTables (tablesAfter (c .tables) (answerOf (callBy c request))) c
+
+-- the line of a request's answer is printed; SM?GL's list is in some sequence
+abbrev pub SaysAnswer : Console → ℕ → List ℕ → List ℕ → List ℕ → ℕ → Type 0
+SaysAnswer c number request before now n =
+    InSomeSequence (slotRows (c .tables)) (λ (names : List (List ℕ)). Wrote before 0 (answerLine number (answerOf (callBy c request) .outcome) (answerOf (callBy c request) .response names)) now n)

@@ -1,0 +1,74 @@
+// A request that the console hands in (docs/CONSOLE.md), as text or as octets, and the line of its answer.
+use console_state::Console;
+ghost use mathlib.Core.Path.{_≡_};
+ghost use Prim.Native.Nat.{_≤_};
+ghost use lib.ListN.{length};
+ghost use Rattle.frames.specs.Frames.{framed};
+ghost use Rattle.hex_octets.specs.Octets.{octetsOf};
+ghost use Rattle.console_requests.specs.Requests.{room, answeredBy, SaysAnswer};
+
+// The state after a line, and how many bytes were printed.
+pub struct Stepped {
+    pub console: Console,
+    pub length: usize,
+}
+
+// How many bytes of response buffer are lent.
+fn room(c: Console) -> usize
+    ensures { λ n. ⌜ n ≡ room c ⌝ }
+    ensures small { λ n. ⌜ n ≤ 2048 ⌝ }
+{
+    if 2048 < c.room {
+        return 2048;
+    }
+    c.room
+}
+
+// 2,048 bytes 2E. The contract gives only their number, which lending a part of them needs.
+fn dots() -> [u8; 2048]
+    ensures { λ r. ⌜ 2048 ≡ length r ⌝ }
+{
+    [46; 2048]
+}
+
+// Hands in a request, and prints its answer.
+fn hand_in(c: Console, number: u64, request: &[u8], out: &mut [u8]) -> Stepped
+    requires { ⌜ 20480 ≤ length (now out) ⌝ }
+    ensures { λ s. ⌜ s .console ≡ answeredBy c (now (request .entry)) ⌝ }
+    ensures printed { λ s. ⌜ SaysAnswer c number (now (request .entry)) (now (out .entry)) (now (out .exit)) (s .length) ⌝ }
+    ensures fits { λ s. ⌜ s .length ≤ length (now (out .entry)) ⌝ }
+{
+    let mut response = dots();
+    let n = room(c);
+    let a = core::handle(c.tables, c.supplement, request, &mut response[..n]);
+    let m = a.length;
+    let o = a.outcome;
+    let length = console_prints::put_answer(out, number, o, &response[..m]);
+    let console = console_state::with_tables(c, a.tables);
+    Stepped { console, length }
+}
+
+// Hands in a text with its checksum and carriage return.
+pub fn send(c: Console, number: u64, text: &[u8], out: &mut [u8]) -> Stepped
+    requires { ⌜ (length (now text) ≤ 2043) × (20480 ≤ length (now out)) ⌝ }
+    ensures { λ s. ⌜ s .console ≡ answeredBy c (framed (now (text .entry))) ⌝ }
+    ensures printed { λ s. ⌜ SaysAnswer c number (framed (now (text .entry))) (now (out .entry)) (now (out .exit)) (s .length) ⌝ }
+    ensures fits { λ s. ⌜ s .length ≤ length (now (out .entry)) ⌝ }
+{
+    let mut request = dots();
+    let n = octets::put(&mut request, 0, text);
+    let m = frame_writer::close_message(&mut request, n);
+    hand_in(c, number, &request[..m], out)
+}
+
+// Hands in the octets of digits.
+pub fn send_octets(c: Console, number: u64, digits: &[u8], out: &mut [u8]) -> Stepped
+    requires { ⌜ (length (now digits) ≤ 4096) × (20480 ≤ length (now out)) ⌝ }
+    ensures { λ s. ⌜ s .console ≡ answeredBy c (octetsOf (now (digits .entry))) ⌝ }
+    ensures printed { λ s. ⌜ SaysAnswer c number (octetsOf (now (digits .entry))) (now (out .entry)) (now (out .exit)) (s .length) ⌝ }
+    ensures fits { λ s. ⌜ s .length ≤ length (now (out .entry)) ⌝ }
+{
+    let mut request = dots();
+    let n = hex_octets::put_octets(&mut request, digits);
+    hand_in(c, number, &request[..n], out)
+}

@@ -1,0 +1,39 @@
+-- `console_state::set_by` meets its contract: an arm at a time.
+use Rattle.console_state.proofs.StateLaws.{tables-set, buffer-set, part-set, passed-set, slot-set, register-set, left}
+use borrow.Author.Needs.{needs}
+use Rattle.console_state.proofs.set_by.Statement.{statement}
+use Rattle.console_state.proofs.set_by.Tie as tie
+
+pub set-by-spec : {M : Type 1} → statement M
+set-by-spec =
+    tie.close
+    (tie.spec
+    (λ c. search needs)
+    (λ c κs. search needs)
+    (λ c κs. search needs)
+    (λ c. search needs)
+    (λ c κs. search needs)
+    (λ c. search needs)
+    (λ c κs. search needs)
+    (λ c κs. search needs)
+    (λ c. search needs)
+    (λ c κs. search needs)
+    (λ c κs. search needs)
+    (λ c. search needs)
+    (λ c κs. search needs)
+    (λ c κs. search needs)
+    (λ c κs. search needs)
+    (λ c κs. search needs)
+    (λ c κs. search needs)
+    (λ c. search needs)
+    (λ c κs. search needs)
+    (λ c κs. search needs)
+    (λ c κs. search needs)
+    (λ c κs. search needs)
+    (λ c. search tables-set)
+    (λ c. search buffer-set)
+    (λ c. search part-set)
+    (λ c. search passed-set)
+    (λ c. search slot-set)
+    (λ c. search register-set)
+    (λ c. search left))

@@ -1,0 +1,85 @@
+// The tables that the console lends (docs/CONSOLE.md): all zero, and with a row set from its digits.
+use rows::RegisterRow;
+use rows::SlotRow;
+use rows::Tables;
+ghost use mathlib.Core.Path.{_≡_};
+ghost use Rattle.rows.specs.Lists.{padded};
+ghost use Rattle.hex_octets.specs.Octets.{octetsOf};
+ghost use Rattle.console_tables.specs.RowLines.{slotOf, registerOf, emptyTables, withSlot, withRegister};
+
+// What fits into 40 bytes of the octets of the digits s, with zeros after them.
+fn in_forty(s: &[u8]) -> [u8; 40]
+    ensures { λ r. ⌜ r ≡ padded 40 (octetsOf (now (s .entry))) ⌝ }
+{
+    let mut space = [0u8; 40];
+    hex_octets::put_octets(&mut space, slot_rows::front(s, 80));
+    space
+}
+
+fn in_sixteen(s: &[u8]) -> [u8; 16]
+    ensures { λ r. ⌜ r ≡ padded 16 (octetsOf (now (s .entry))) ⌝ }
+{
+    let mut space = [0u8; 16];
+    hex_octets::put_octets(&mut space, slot_rows::front(s, 32));
+    space
+}
+
+// The slot row of a state and three words of digits.
+pub fn slot_of(state: u8, d: &[u8]) -> SlotRow
+    ensures { λ r. ⌜ r ≡ slotOf state (now (d .entry)) ⌝ }
+{
+    let after = console_words::rest(d);
+    SlotRow {
+        state,
+        kmcid: in_forty(console_words::word(d)),
+        fingerprint: in_sixteen(console_words::word(after)),
+        tvp: in_sixteen(console_words::rest(after)),
+    }
+}
+
+// The register row of a word of digits.
+pub fn register_of(d: &[u8]) -> RegisterRow
+    ensures { λ r. ⌜ r ≡ registerOf (now (d .entry)) ⌝ }
+{
+    let mut card = [0u8; 256];
+    hex_octets::put_octets(&mut card, slot_rows::front(d, 512));
+    RegisterRow { card }
+}
+
+// Tables of m slot rows and n register rows, all zero.
+pub fn empty_tables(m: usize, n: usize) -> Tables
+    ensures { λ t. ⌜ t ≡ emptyTables m n ⌝ }
+{
+    let slot = slot_rows::free_slot();
+    let register = register_rows::free_register();
+    let slots = [slot; 8];
+    let registers = [register; 32];
+    Tables {
+        slots,
+        registers,
+        slot_count: m,
+        register_count: n,
+    }
+}
+
+// The tables with another slot row in place k.
+pub fn set_slot(t: Tables, k: usize, row: SlotRow) -> Tables
+    ensures { λ u. ⌜ u ≡ withSlot k row t ⌝ }
+{
+    let mut u = t;
+    if k < 8 {
+        u.slots[k] = row;
+    }
+    u
+}
+
+// The tables with another register row in place k.
+pub fn set_register(t: Tables, k: usize, row: RegisterRow) -> Tables
+    ensures { λ u. ⌜ u ≡ withRegister k row t ⌝ }
+{
+    let mut u = t;
+    if k < 32 {
+        u.registers[k] = row;
+    }
+    u
+}

@@ -1,0 +1,48 @@
+// Bytes of a row shown as text: what stands before the first zero, with a full stop for each byte that is no text, and - for nothing.
+use text::Class;
+ghost use mathlib.Core.Path.{_≡_};
+ghost use mathlib.Core.List.{[], _∷_, _++_, map};
+ghost use Prim.Native.Nat.{_+_, _≤_, _<_};
+ghost use lib.ListN.{length};
+ghost use Rattle.octets.specs.Wrote.{Wrote};
+ghost use Rattle.console_text.specs.Texts.{legible, shown};
+
+// Writes a byte that is text, and a full stop for another.
+fn put_legible(dst: &mut [u8], at: usize, b: u8) -> usize
+    requires { ⌜ at < length (now dst) ⌝ }
+    ensures { λ r. ⌜ Wrote (now (dst .entry)) at (legible b ∷ []) (now (dst .exit)) r ⌝ }
+{
+    if text::is_of(Class::Text, b) {
+        return octets::put_byte(dst, at, b);
+    }
+    octets::put_byte(dst, at, 46)
+}
+
+fn put_text(dst: &mut [u8], at: usize, s: &[u8]) -> usize
+    requires { ⌜ at + length (now s) ≤ length (now dst) ⌝ }
+    ensures { λ r. ⌜ Wrote (now (dst .entry)) at (map legible (now (s .entry))) (now (dst .exit)) r ⌝ }
+    ensures short { λ r. ⌜ r ≡ at + length (now (s .entry)) ⌝ }
+{
+    let mut end = at;
+    let mut i = 0;
+    while i < s.len() {
+        end = put_legible(dst, end, s[i]);
+        i += 1;
+    }
+    end
+}
+
+// Writes s as text and the byte that stands after it.
+pub fn put_shown(dst: &mut [u8], at: usize, s: &[u8], after: u8) -> usize
+    requires { ⌜ at + length (now s) + 2 ≤ length (now dst) ⌝ }
+    ensures { λ r. ⌜ Wrote (now (dst .entry)) at (shown (now (s .entry)) ++ (after ∷ [])) (now (dst .exit)) r ⌝ }
+    ensures short { λ r. ⌜ r ≤ at + length (now (s .entry)) + 2 ⌝ }
+{
+    let kept = slot_tests::trimmed(s);
+    if kept.len() == 0 {
+        let none = octets::put_byte(dst, at, 45);
+        return octets::put_byte(dst, none, after);
+    }
+    let end = put_text(dst, at, kept);
+    octets::put_byte(dst, end, after)
+}

@@ -1,0 +1,19 @@
+-- Words are split by one space (docs/CONSOLE.md).
+use Prim.Native.Nat.{ℕ, _+_}
+use mathlib.Core.Bool.{Bool}
+use mathlib.Core.List.{List}
+use lib.Dec.{ltb}
+use lib.ListN.{length, take, drop}
+use Rattle.octets.specs.Strings.{isNot, run}
+
+-- the first word
+unfoldable pub word : List ℕ → List ℕ
+word s = take (run (isNot 32) s) s
+
+-- what stands after the first space; nothing where there is none
+unfoldable pub rest : List ℕ → List ℕ
+rest s = drop (run (isNot 32) s + 1) s
+
+-- there is a space
+unfoldable pub hasRest : List ℕ → Bool
+hasRest s = ltb (run (isNot 32) s) (length s)

@@ -1,0 +1,54 @@
+// Octets as two hexadecimal digits each, capitals only, the high digit first: written, and read.
+ghost use mathlib.Core.Path.{_≡_};
+ghost use mathlib.Core.List.{[], _∷_};
+ghost use Prim.Native.Nat.{_+_, _≤_};
+ghost use lib.ListN.{length};
+ghost use Rattle.octets.specs.Wrote.{Wrote};
+ghost use Rattle.hex_octets.specs.Octets.{octetOf, digitsOf, octetsOf};
+
+// Writes the two digits of b, and answers the place after them.
+fn put_octet(dst: &mut [u8], at: usize, b: u8) -> usize
+    requires { ⌜ at + 2 ≤ length (now dst) ⌝ }
+    ensures { λ r. ⌜ Wrote (now (dst .entry)) at (digitsOf (b ∷ [])) (now (dst .exit)) r ⌝ }
+{
+    let o = octets::put_byte(dst, at, hexadecimal::hex_digit((b / 16) as u16));
+    octets::put_byte(dst, o, hexadecimal::hex_digit((b % 16) as u16))
+}
+
+// Writes the digits of s, and answers the place after them.
+pub fn put_digits(dst: &mut [u8], at: usize, s: &[u8]) -> usize
+    requires { ⌜ at + (length (now s) + length (now s)) ≤ length (now dst) ⌝ }
+    ensures { λ r. ⌜ Wrote (now (dst .entry)) at (digitsOf (now (s .entry))) (now (dst .exit)) r ⌝ }
+    ensures short { λ r. ⌜ r ≡ at + (length (now (s .entry)) + length (now (s .entry))) ⌝ }
+{
+    let mut o = at;
+    let mut j = 0;
+    while j < s.len() {
+        o = put_octet(dst, o, s[j]);
+        j += 1;
+    }
+    o
+}
+
+// The octet of two digits.
+fn octet_of(a: u8, b: u8) -> u8
+    ensures { λ r. ⌜ r ≡ octetOf a b ⌝ }
+{
+    ((hexadecimal::hex_value(a) * 16 + hexadecimal::hex_value(b)) % 256) as u8
+}
+
+// Writes the octets of the digits s from the start on, and answers how many there are.
+pub fn put_octets(dst: &mut [u8], s: &[u8]) -> usize
+    requires { ⌜ length (now s) ≤ length (now dst) + length (now dst) ⌝ }
+    ensures { λ r. ⌜ Wrote (now (dst .entry)) 0 (octetsOf (now (s .entry))) (now (dst .exit)) r ⌝ }
+    ensures fits { λ r. ⌜ r ≤ length (now (dst .entry)) ⌝ }
+{
+    let mut n = 0;
+    let mut i = 0;
+    while i + 1 < s.len() {
+        dst[n] = octet_of(s[i], s[i + 1]);
+        n += 1;
+        i += 2;
+    }
+    n
+}

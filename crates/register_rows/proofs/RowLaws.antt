@@ -1,0 +1,25 @@
+-- The cases of a free row, each with what the code knows where it answers as premises.
+use mathlib.Core.Path.{_≡_, refl, sym}
+use mathlib.Core.Bool.{Bool, false}
+use mathlib.Core.List.{List, [], _∷_}
+use Prim.Native.Nat.{ℕ}
+use lib.ListN.{getD}
+use borrow.Author.Tests.{ne-eqb}
+use Rattle.text.specs.Classes.{areAll}
+use Rattle.text.specs.declared.Class.the-variants.{Zero}
+use Rattle.rows.specs.Registers.{isVacant}
+use Rattle.rows.specs.declared.RegisterRow.{RegisterRow}
+
+first-other : (s : List ℕ) → (getD s 0 0 ≡ 0 → ⊥) → false ≡ areAll Zero s
+unfolding areAll
+first-other [] o = absurd (o refl)
+first-other (b ∷ bs) o = sym (rw (ne-eqb b 0 o))
+
+module _ (r : RegisterRow) where
+  pub starts-filled : (getD (r .card) 0 0 ≡ 0 → ⊥) → false ≡ isVacant r
+  unfolding isVacant
+  starts-filled o = first-other (r .card) o
+
+  pub all-tested : (b : Bool) → b ≡ areAll Zero (r .card) → b ≡ isVacant r
+  unfolding isVacant
+  all-tested b p = p

@@ -1,0 +1,35 @@
+-- `text::are_zeros` meets its contract. What is added up so far is zero, and what is left is, where the whole is.
+use mathlib.Core.Path.{_≡_}
+use mathlib.Core.Bool.{_&&_}
+use Prim.Native.Nat.{_*_, _-_, _≤_}
+use lib.Dec.{eqb}
+use lib.ListN.{length, drop}
+use Rattle.octets.specs.Strings.{allOf}
+use Rattle.text.specs.Classes.{isOf, areAll}
+use Rattle.text.specs.declared.Class.the-variants.{Zero}
+use Rattle.text.proofs.Zeros.{zeros-whole, zeros-turn, some-other, all-zero}
+use borrow.Author.Needs.{needs}
+use Rattle.text.proofs.are_zeros.Statement.{statement}
+use Rattle.text.proofs.are_zeros.Tie as tie
+
+abbrev Inv-loop : tie.InvT-loop
+Inv-loop s sum₀ i₀ sum i = (length s ≤ 65536) × (i ≤ length s) × (sum ≤ 255 * i) × ((eqb sum 0 && allOf (isOf Zero) (drop i s)) ≡ areAll Zero s)
+
+abbrev μ-loop : tie.MeasureT-loop
+μ-loop s sum₀ i₀ sum i = length s - i
+
+pub are-zeros-spec : {M : Type 1} → statement M
+are-zeros-spec =
+    tie.close
+    (tie.spec
+    Inv-loop
+    μ-loop
+    (λ c. (search needs, search needs, search needs, search zeros-whole))
+    (λ c. search needs)
+    (λ c κs. search needs)
+    (λ c. search needs)
+    (λ c. search needs)
+    (λ c. search needs)
+    (λ c. (search needs, search needs, search needs, search zeros-turn))
+    (λ c. search some-other)
+    (λ c. search all-zero))
