@@ -106,10 +106,10 @@ pub fn are_zeros(s: &[u8]) -> bool
     ensures { λ r. ⌜ r ≡ areAll Zero (now (s .entry)) ⌝ }
 {
     let mut sum: u64 = 0;
-    let mut i = 0;
-    while i < s.len() {
-        sum += wide(s[i]);
-        i += 1;
+    let mut k = 0;
+    while k < s.len() {
+        sum += wide(s[k]);
+        k += 1;
     }
     if sum != 0 {
         return false;
