@@ -15,7 +15,7 @@ unfolding crcEight
 eight-bound c h =
     bit-bound _ (bit-bound _ (bit-bound _ (bit-bound _ (bit-bound _ (bit-bound _ (bit-bound _ (bit-bound c h)))))))
 
-byte-bound : (c b : ℕ) → c < 65536 → b < 256 → crcByte c b < 65536
+pub byte-bound : (c b : ℕ) → c < 65536 → b < 256 → crcByte c b < 65536
 unfolding crcByte
 byte-bound c b h l = eight-bound _ (xor-lt 16 c b h (omega arith))
 
