@@ -1,28 +1,33 @@
 -- The cases of the calendar, each with what the code knows where it answers as premises.
-use mathlib.Core.Path.{_≡_}
-use mathlib.Core.Bool.{Bool, true, false}
+use mathlib.Core.Path.{_≡_, refl, sym, _∙_}
+use mathlib.Core.Bool.{Bool, true, false, cond, and-false, or-false, _&&_, _||_}
 use mathlib.Core.Logic.{_⊎_, inl, inr, ⊎-elim}
-use Prim.Native.Nat.{ℕ, _/_, _%_, _≤_, _<_}
+use Prim.Native.Nat.{ℕ, zero, suc, _+_, _*_, _/_, _%_, _≤_, _<_}
+use native.Mathlib.Omega.{arith}
 use lib.Dec.{leb, eqb}
-use borrow.Author.Tests.{ne-eqb, le-leb, lt-leb}
+use borrow.Author.Tests.{eq-eqb, ne-eqb, le-leb, lt-leb, leb-true, leb-false}
 use Rattle.calendar.specs.Calendar.{isLeap, daysIn, isDate, isTime}
 
--- is_leap
-module _ (y : ℕ) where
-  pub fourth-century : y % 400 ≡ 0 → true ≡ isLeap y
+-- is_leap: the year is c * 100 + y
+module _ (c y : ℕ) where
+  pub century-year : y ≡ 0 → eqb (c % 4) 0 ≡ isLeap (c * 100 + y)
   unfolding isLeap
-  fourth-century e = rw e
+  century-year e = rw (eq-eqb ((c * 100 + y) % 100) 0 (omega arith), or-false, hundredfold) (by-case (c % 4))
+    where
+      hundredfold : (c * 100 + y) % 400 ≡ c % 4 * 100
+      hundredfold = omega arith
 
-  module _ (n : y % 400 ≡ 0 → ⊥) where
-    pub century : y % 100 ≡ 0 → false ≡ isLeap y
-    unfolding isLeap
-    century e = rw (ne-eqb (y % 400) 0 n, e)
+      by-case : (k : ℕ) → eqb k 0 ≡ eqb (k * 100) 0
+      by-case zero = refl
+      by-case (suc k) = ne-eqb (suc k) 0 (λ p. omega arith) ∙ sym (ne-eqb (suc k * 100) 0 (λ p. omega arith))
 
-    pub other-year : (y % 100 ≡ 0 → ⊥) → eqb (y % 4) 0 ≡ isLeap y
-    unfolding isLeap
-    other-year o = rw (ne-eqb (y % 400) 0 n, ne-eqb (y % 100) 0 o)
+  pub other-year : (y ≡ 0 → ⊥) → y ≤ 99 → eqb (y % 4) 0 ≡ isLeap (c * 100 + y)
+  unfolding isLeap
+  other-year o h =
+      let p : (c * 100 + y) % 4 ≡ y % 4 = omega arith in
+      rw (ne-eqb ((c * 100 + y) % 400) 0 (λ e. o (omega arith)), ne-eqb ((c * 100 + y) % 100) 0 (λ e. o (omega arith)), p)
 
--- days_in
+-- days_in: y is the year
 module _ (y m : ℕ) where
   pub long-february : m ≡ 2 → (t : Bool) → t ≡ isLeap y → t ≡ true → 29 ≡ daysIn y m
   unfolding daysIn
@@ -42,42 +47,113 @@ module _ (y m : ℕ) where
   thirty-one o n =
       rw (ne-eqb m 2 o, ne-eqb m 4 (λ e. n (inl e)), ne-eqb m 6 (λ e. n (inr (inl e))), ne-eqb m 9 (λ e. n (inr (inr (inl e)))), ne-eqb m 11 (λ e. n (inr (inr (inr e)))))
 
--- is_date
-module _ (d : ℕ) where
-  pub old-year : d / 10000 < 1900 → false ≡ isDate d
+  -- a month has 28 to 31 days
+  pub days-range : (28 ≤ daysIn y m) × (daysIn y m ≤ 31)
+  unfolding daysIn
+  days-range = by-case (eqb m 2) (isLeap y) (eqb m 4 || (eqb m 6 || (eqb m 9 || eqb m 11)))
+    where
+      by-case : (a b d : Bool) → (28 ≤ cond a (cond b 29 28) (cond d 30 31)) × (cond a (cond b 29 28) (cond d 30 31) ≤ 31)
+      by-case true true d = (omega arith, omega arith)
+      by-case true false d = (omega arith, omega arith)
+      by-case false b true = (omega arith, omega arith)
+      by-case false b false = (omega arith, omega arith)
+
+-- a conjunction is false where its second part is false whenever the first holds
+unless : (a b : ℕ) (x : Bool) → (a ≤ b → x ≡ false) → (leb a b && x) ≡ false
+unless a b x f = by-case (leb a b) refl
+  where
+    by-case : (t : Bool) → leb a b ≡ t → (t && x) ≡ false
+    by-case true p = f (leb-true a b p)
+    by-case false p = refl
+
+-- is_day: the date YYYYMMDD of a century, a year in it, a month and a day
+module _ (c y m d : ℕ) where
+  abbrev number : ℕ
+  number = ((c * 100 + y) * 100 + m) * 100 + d
+
+  abbrev isDay : Bool
+  isDay = leb c 99 && (leb y 99 && (leb m 99 && (leb d 99 && isDate number)))
+
+  by-parts : y ≤ 99 → m ≤ 99 → d ≤ 99 → isDate number ≡ (leb 1900 (c * 100 + y) && (leb 1 m && (leb m 12 && (leb 1 d && leb d (daysIn (c * 100 + y) m)))))
   unfolding isDate
-  old-year h = rw (lt-leb 1900 (d / 10000) h)
+  by-parts p q r =
+      let a : number / 10000 ≡ c * 100 + y = omega arith in
+      let b : number / 100 % 100 ≡ m = omega arith in
+      let e : number % 100 ≡ d = omega arith in
+      simp (a, b, e)
 
-  module _ (y : 1900 ≤ d / 10000) where
-    pub month-zero : d / 100 % 100 < 1 → false ≡ isDate d
-    unfolding isDate
-    month-zero h = rw (le-leb 1900 (d / 10000) y, lt-leb 1 (d / 100 % 100) h)
+  no-day : (y ≤ 99 → m ≤ 99 → d ≤ 99 → (leb 1900 (c * 100 + y) && (leb 1 m && (leb m 12 && (leb 1 d && leb d (daysIn (c * 100 + y) m))))) ≡ false) → false ≡ isDay
+  no-day f = sym (unless c 99 _ (λ o. unless y 99 _ (λ p. unless m 99 _ (λ q. unless d 99 _ (λ r. by-parts p q r ∙ f p q r)))))
 
-    module _ (m : 1 ≤ d / 100 % 100) where
-      pub month-over : 12 < d / 100 % 100 → false ≡ isDate d
-      unfolding isDate
-      month-over h = rw (le-leb 1900 (d / 10000) y, le-leb 1 (d / 100 % 100) m, lt-leb (d / 100 % 100) 12 h)
+  pub old-century : c < 19 → false ≡ isDay
+  old-century h = no-day (λ p q r. rw (lt-leb 1900 (c * 100 + y) (omega arith)))
 
-      module _ (n : d / 100 % 100 ≤ 12) where
-        pub day-zero : d % 100 < 1 → false ≡ isDate d
-        unfolding isDate
-        day-zero h = rw (le-leb 1900 (d / 10000) y, le-leb 1 (d / 100 % 100) m, le-leb (d / 100 % 100) 12 n, lt-leb 1 (d % 100) h)
+  pub century-over : 99 < c → false ≡ isDay
+  century-over h = rw (lt-leb c 99 h)
 
-        pub day-of : 1 ≤ d % 100 → (k : ℕ) → k ≡ daysIn (d / 10000) (d / 100 % 100) → leb (d % 100) k ≡ isDate d
-        unfolding isDate
-        day-of h k e = rw (le-leb 1900 (d / 10000) y, le-leb 1 (d / 100 % 100) m, le-leb (d / 100 % 100) 12 n, le-leb 1 (d % 100) h, e)
+  pub year-over : 99 < y → false ≡ isDay
+  year-over h = simp (lt-leb y 99 h, and-false)
 
--- is_time
-module _ (t : ℕ) where
-  pub hour-over : 23 < t / 10000 → false ≡ isTime t
+  pub month-zero : m < 1 → false ≡ isDay
+  month-zero h = no-day (λ p q r. simp (lt-leb 1 m h, and-false))
+
+  pub month-over : 12 < m → false ≡ isDay
+  month-over h = no-day (λ p q r. simp (lt-leb m 12 h, and-false))
+
+  pub day-zero : d < 1 → false ≡ isDay
+  day-zero h = no-day (λ p q r. simp (lt-leb 1 d h, and-false))
+
+  day-over : daysIn (c * 100 + y) m < d → false ≡ isDay
+  day-over h = no-day (λ p q r. simp (lt-leb d (daysIn (c * 100 + y) m) h, and-false))
+
+  module _ (s : 19 ≤ c) (t : c ≤ 99) (p : y ≤ 99) (l : 1 ≤ m) (n : m ≤ 12) (o : 1 ≤ d) where
+    a-day : d ≤ daysIn (c * 100 + y) m → true ≡ isDay
+    a-day h =
+        let k = days-range (c * 100 + y) m in
+        let q : m ≤ 99 = omega arith in
+        let r : d ≤ 99 = omega arith in
+        rw (le-leb c 99 t, le-leb y 99 p, le-leb m 99 q, le-leb d 99 r, by-parts p q r, le-leb 1900 (c * 100 + y) (omega arith), le-leb 1 m l, le-leb m 12 n, le-leb 1 d o, le-leb d (daysIn (c * 100 + y) m) h)
+
+    pub early-day : d ≤ 28 → true ≡ isDay
+    early-day h = let k = days-range (c * 100 + y) m in a-day (omega arith)
+
+    pub late-day : (k : ℕ) → k ≡ daysIn (c * 100 + y) m → leb d k ≡ isDay
+    late-day k e = by-case (leb d k) refl
+      where
+        by-case : (b : Bool) → leb d k ≡ b → b ≡ isDay
+        by-case true q = let h = leb-true d k q in a-day (omega arith)
+        by-case false q = let h = leb-false d k q in day-over (omega arith)
+
+-- is_time_of_day: the time hhmmss of an hour, a minute and a second
+module _ (h m s : ℕ) where
+  abbrev time : ℕ
+  time = (h * 100 + m) * 100 + s
+
+  abbrev isTimeOfDay : Bool
+  isTimeOfDay = leb h 99 && (leb m 99 && (leb s 99 && isTime time))
+
+  time-by-parts : m ≤ 99 → s ≤ 99 → isTime time ≡ (leb h 23 && (leb m 59 && leb s 59))
   unfolding isTime
-  hour-over h = rw (lt-leb (t / 10000) 23 h)
+  time-by-parts p q =
+      let a : time / 10000 ≡ h = omega arith in
+      let b : time / 100 % 100 ≡ m = omega arith in
+      let e : time % 100 ≡ s = omega arith in
+      simp (a, b, e)
 
-  module _ (p : t / 10000 ≤ 23) where
-    pub minute-over : 59 < t / 100 % 100 → false ≡ isTime t
-    unfolding isTime
-    minute-over h = rw (le-leb (t / 10000) 23 p, lt-leb (t / 100 % 100) 59 h)
+  no-time : (leb h 23 && (leb m 59 && leb s 59)) ≡ false → false ≡ isTimeOfDay
+  no-time f = sym (unless h 99 _ (λ o. unless m 99 _ (λ p. unless s 99 _ (λ q. time-by-parts p q ∙ f))))
 
-    pub second-of : t / 100 % 100 ≤ 59 → leb (t % 100) 59 ≡ isTime t
-    unfolding isTime
-    second-of h = rw (le-leb (t / 10000) 23 p, le-leb (t / 100 % 100) 59 h)
+  pub hour-over : 23 < h → false ≡ isTimeOfDay
+  hour-over o = no-time (rw (lt-leb h 23 o))
+
+  pub minute-over : 59 < m → false ≡ isTimeOfDay
+  minute-over o = no-time (simp (lt-leb m 59 o, and-false))
+
+  pub second-of : h ≤ 23 → m ≤ 59 → leb s 59 ≡ isTimeOfDay
+  second-of o p = by-case (leb s 59) refl
+    where
+      by-case : (b : Bool) → leb s 59 ≡ b → b ≡ isTimeOfDay
+      by-case false q = no-time (simp (q, and-false))
+      by-case true q =
+          let r = leb-true s 59 q in
+          rw (le-leb h 99 (omega arith), le-leb m 99 (omega arith), le-leb s 99 (omega arith), time-by-parts (omega arith) (omega arith), le-leb h 23 o, le-leb m 59 p, q)

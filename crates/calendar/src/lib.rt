@@ -1,65 +1,74 @@
-// Dates as numbers YYYYMMDD and times as numbers hhmmss: Gregorian, years 1900 to 9999, no leap seconds (document 01, "What the caller lends"; 001 Table 6).
+// Dates and times of day by numbers of two digits: Gregorian, years 1900 to 9999, no leap seconds (document 01, "What the caller lends"; 001 Table 6).
 ghost use mathlib.Core.Path.{_≡_};
+ghost use mathlib.Core.Bool.{_&&_};
+ghost use Prim.Native.Nat.{_+_, _*_, _≤_};
+ghost use lib.Dec.{leb};
 ghost use Rattle.calendar.specs.Calendar.{isLeap, daysIn, isDate, isTime};
 
-fn is_leap(y: u64) -> bool
-    ensures { λ r. ⌜ r ≡ isLeap y ⌝ }
+// A year that ends in 00 is a leap year where its century is divisible by four, another where the year itself is.
+fn is_leap(century: u64, year: u64) -> bool
+    requires { ⌜ year ≤ 99 ⌝ }
+    ensures { λ r. ⌜ r ≡ isLeap (century * 100 + year) ⌝ }
 {
-    if y % 400 == 0 {
-        return true;
+    if year == 0 {
+        return century % 4 == 0;
     }
-    if y % 100 == 0 {
-        return false;
-    }
-    y % 4 == 0
+    year % 4 == 0
 }
 
-fn days_in(y: u64, m: u64) -> u64
-    ensures { λ r. ⌜ r ≡ daysIn y m ⌝ }
+fn days_in(century: u64, year: u64, month: u64) -> u64
+    requires { ⌜ year ≤ 99 ⌝ }
+    ensures { λ r. ⌜ r ≡ daysIn (century * 100 + year) month ⌝ }
 {
-    if m == 2 {
-        if is_leap(y) {
+    if month == 2 {
+        if is_leap(century, year) {
             return 29;
         }
         return 28;
     }
-    match m {
+    match month {
         4 | 6 | 9 | 11 => 30,
         _ => 31,
     }
 }
 
-// Whether a number is a date.
-pub fn is_date(d: u64) -> bool
-    ensures { λ r. ⌜ r ≡ isDate d ⌝ }
+// Whether a century, the year in it, a month and a day are numbers of two digits that say a date. What each month has is asked only of the days after the 28th.
+pub fn is_day(century: u64, year: u64, month: u64, day: u64) -> bool
+    ensures { λ r. ⌜ r ≡ (leb century 99 && (leb year 99 && (leb month 99 && (leb day 99 && isDate (((century * 100 + year) * 100 + month) * 100 + day))))) ⌝ }
 {
-    let y = d / 10000;
-    let m = d / 100 % 100;
-    let n = d % 100;
-    if y < 1900 {
+    if century < 19 {
         return false;
     }
-    if m < 1 {
+    if 99 < century {
         return false;
     }
-    if 12 < m {
+    if 99 < year {
         return false;
     }
-    if n < 1 {
+    if month < 1 {
         return false;
     }
-    n <= days_in(y, m)
+    if 12 < month {
+        return false;
+    }
+    if day < 1 {
+        return false;
+    }
+    if day <= 28 {
+        return true;
+    }
+    day <= days_in(century, year, month)
 }
 
-// Whether a number is a time of day.
-pub fn is_time(t: u64) -> bool
-    ensures { λ r. ⌜ r ≡ isTime t ⌝ }
+// Whether an hour, a minute and a second are numbers of two digits that say a time of day.
+pub fn is_time_of_day(hour: u64, minute: u64, second: u64) -> bool
+    ensures { λ r. ⌜ r ≡ (leb hour 99 && (leb minute 99 && (leb second 99 && isTime ((hour * 100 + minute) * 100 + second)))) ⌝ }
 {
-    if 23 < t / 10000 {
+    if 23 < hour {
         return false;
     }
-    if 59 < t / 100 % 100 {
+    if 59 < minute {
         return false;
     }
-    t % 100 <= 59
+    second <= 59
 }

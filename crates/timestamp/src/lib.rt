@@ -1,8 +1,11 @@
 // Timestamps YYYYMMDDThhmmssZ and PTVD dates CCYYMMDDhhmmss: Gregorian, years 1900 to 9999, no leap seconds (document 01; 003 clause 5.1.4; 001 Table 6).
-use text::Class;
 ghost use mathlib.Core.Path.{_≡_};
-ghost use Prim.Native.Nat.{_≤_};
-ghost use lib.ListN.{length};
+ghost use mathlib.Core.Bool.{cond};
+ghost use Prim.Native.Nat.{_+_, _≤_};
+ghost use lib.ListN.{length, take, drop};
+ghost use Rattle.text.specs.Classes.{areAll};
+ghost use Rattle.text.specs.declared.Class.the-variants.{Digit};
+ghost use Rattle.decimals.specs.Decimals.{decimal};
 ghost use Rattle.timestamp.specs.Timestamps.{momentOf, timestampOf, dateTimeOf, isMoment, isLater};
 
 // A moment as the number YYYYMMDDhhmmss, or none.
@@ -11,25 +14,51 @@ pub enum Moment {
     Bad,
 }
 
+// The number that the two digits at a place say, and 100 where one is no digit.
+fn pair(s: &[u8], at: usize) -> u64
+    requires { ⌜ at + 2 ≤ length (now s) ⌝ }
+    ensures { λ r. ⌜ r ≡ cond (areAll Digit (take 2 (drop at (now (s .entry))))) (decimal (take 2 (drop at (now (s .entry))))) 100 ⌝ }
+    ensures small { λ r. ⌜ r ≤ 100 ⌝ }
+{
+    let a = s[at];
+    let b = s[at + 1];
+    if a < 48 {
+        return 100;
+    }
+    if 57 < a {
+        return 100;
+    }
+    if b < 48 {
+        return 100;
+    }
+    if 57 < b {
+        return 100;
+    }
+    ((a - 48) as u64) * 10 + ((b - 48) as u64)
+}
+
+// The moment is read by numbers of two digits, without loop and division: a pair that is no number, 100, is refused by the calendar.
 fn moment_of(date: &[u8], time: &[u8]) -> Moment
-    requires { ⌜ (length (now date) ≤ 10) × (length (now time) ≤ 10) ⌝ }
+    requires { ⌜ (length (now date) ≡ 8) × (length (now time) ≡ 6) ⌝ }
     ensures { λ r. ⌜ r ≡ momentOf (now (date .entry)) (now (time .entry)) ⌝ }
 {
-    if !text::are_all(Class::Digit, date) {
+    let century = pair(date, 0);
+    let year = pair(date, 2);
+    let month = pair(date, 4);
+    let day = pair(date, 6);
+    if !calendar::is_day(century, year, month, day) {
         return Moment::Bad;
     }
-    if !text::are_all(Class::Digit, time) {
+    let hour = pair(time, 0);
+    let minute = pair(time, 2);
+    let second = pair(time, 4);
+    if !calendar::is_time_of_day(hour, minute, second) {
         return Moment::Bad;
     }
-    let d = decimals::decimal(date);
-    let t = decimals::decimal(time);
-    if !calendar::is_date(d) {
-        return Moment::Bad;
-    }
-    if !calendar::is_time(t) {
-        return Moment::Bad;
-    }
-    Moment::At(d * 1000000 + t)
+    Moment::At(
+        (((century * 100 + year) * 100 + month) * 100 + day) * 1000000
+            + ((hour * 100 + minute) * 100 + second),
+    )
 }
 
 // The moment of a timestamp.

@@ -1,5 +1,5 @@
 -- `timestamp::moment_of` meets its contract, a law a return.
-use Rattle.timestamp.proofs.MomentLaws.{date-digits, time-digits, no-date, no-time, a-moment}
+use Rattle.timestamp.proofs.MomentLaws.{no-date, no-time, a-moment}
 use borrow.Author.Needs.{needs}
 use Rattle.timestamp.proofs.moment_of.Statement.{statement}
 use Rattle.timestamp.proofs.moment_of.Tie as tie
@@ -9,15 +9,26 @@ moment-of-spec =
     tie.close
     (tie.spec
     (λ c κs. search needs)
-    (λ c. search date-digits)
     (λ c κs. search needs)
-    (λ c. search time-digits)
     (λ c κs. search needs)
     (λ c κs. search needs)
     (λ c κs. search needs)
     (λ c. search no-date)
     (λ c κs. search needs)
+    (λ c κs. search needs)
+    (λ c κs. search needs)
+    (λ c κs. search needs)
     (λ c. search no-time)
+    (λ c. search needs)
+    (λ c. search needs)
+    (λ c. search needs)
+    (λ c. search needs)
+    (λ c. search needs)
+    (λ c. search needs)
+    (λ c. search needs)
+    (λ c. search needs)
+    (λ c. search needs)
+    (λ c. search needs)
     (λ c. search needs)
     (λ c. search needs)
     (λ c. search a-moment))
