@@ -2,7 +2,7 @@
 use mathlib.Core.Path.{_≡_, refl, ap, subst}
 use mathlib.Core.Bool.{Bool, true, false, _&&_}
 use mathlib.Core.List.{List, [], _∷_}
-use Prim.Native.Nat.{ℕ, zero, suc, _≤_, _<_}
+use Prim.Native.Nat.{ℕ, zero, suc, _+_, _≤_, _<_}
 use native.Mathlib.Omega.{arith}
 use lib.Dec.{T, ltb, ltb→lt}
 use lib.ListN.{length, drop, length-drop, drop-of-length-le}
@@ -40,6 +40,13 @@ module _ (k : ℕ) (a : Attribute) (r : List Attribute) (e : drop k table ≡ a 
   pub name-three : name a < 16777216
   unfolding table
   name-three = ltb→lt (name a) 16777216 (at-row (λ (x : Attribute). ltb (name x) 16777216) table tt k a r e)
+
+-- an arm of the match on a row's number
+pub row-arm : (k n : ℕ) → k ≡ n → (a : Attribute) → drop n table ≡ a ∷ drop (n + 1) table → drop k table ≡ a ∷ drop (k + 1) table
+row-arm k n e a p = rw e p
+
+pub past : (k n : ℕ) → n ≤ k → (k ≡ n → ⊥) → suc n ≤ k
+past k n h o = omega (arith, o)
 
 pub table-end : (k : ℕ) → rows ≤ k → drop k table ≡ []
 unfolding table

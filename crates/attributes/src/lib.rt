@@ -49,28 +49,26 @@ pub struct Attribute(pub u32, pub Presence, pub Form);
 
 pub const ROWS: usize = 15;
 
-const TABLE: [Attribute; ROWS] = [
-    Attribute(ACT, Presence::Required, Form::Timestamp),
-    Attribute(BDT, Presence::Required, Form::Timestamp),
-    Attribute(CLM, Presence::Optional, Form::Hex(8)),
-    Attribute(CLU, Presence::Engine, Form::Number(1, 0, 0)),
-    Attribute(DKG, Presence::Required, Form::Algorithm),
-    Attribute(IUT, Presence::Optional, Form::Timestamp),
-    Attribute(KCV, Presence::Engine, Form::Hex(6)),
-    Attribute(KEN, Presence::Required, Form::Number(3, 0, 255)),
-    Attribute(KRN, Presence::Required, Form::Number(1, 1, 9)),
-    Attribute(KSL, Presence::Engine, Form::Name),
-    Attribute(KTC, Presence::Required, Form::Number(1, 0, 3)),
-    Attribute(SBM, Presence::Optional, Form::Hex(4)),
-    Attribute(SGC, Presence::Required, Form::Digits(10)),
-    Attribute(ULM, Presence::Optional, Form::Number(9, 0, 999999999)),
-    Attribute(VND, Presence::Engine, Form::Number(9, 0, 999999999)),
-];
-
-// The k-th attribute.
+// The k-th attribute. A match, since a table that is indexed would be laid out anew at each call.
 pub fn row(k: usize) -> Attribute
     requires { ⌜ k < rows ⌝ }
     ensures { λ r. ⌜ drop k table ≡ r ∷ drop (k + 1) table ⌝ }
 {
-    TABLE[k]
+    match k {
+        0 => Attribute(ACT, Presence::Required, Form::Timestamp),
+        1 => Attribute(BDT, Presence::Required, Form::Timestamp),
+        2 => Attribute(CLM, Presence::Optional, Form::Hex(8)),
+        3 => Attribute(CLU, Presence::Engine, Form::Number(1, 0, 0)),
+        4 => Attribute(DKG, Presence::Required, Form::Algorithm),
+        5 => Attribute(IUT, Presence::Optional, Form::Timestamp),
+        6 => Attribute(KCV, Presence::Engine, Form::Hex(6)),
+        7 => Attribute(KEN, Presence::Required, Form::Number(3, 0, 255)),
+        8 => Attribute(KRN, Presence::Required, Form::Number(1, 1, 9)),
+        9 => Attribute(KSL, Presence::Engine, Form::Name),
+        10 => Attribute(KTC, Presence::Required, Form::Number(1, 0, 3)),
+        11 => Attribute(SBM, Presence::Optional, Form::Hex(4)),
+        12 => Attribute(SGC, Presence::Required, Form::Digits(10)),
+        13 => Attribute(ULM, Presence::Optional, Form::Number(9, 0, 999999999)),
+        _ => Attribute(VND, Presence::Engine, Form::Number(9, 0, 999999999)),
+    }
 }
