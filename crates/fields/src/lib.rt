@@ -57,7 +57,7 @@ fn field_of(kind: u8, s: &[u8], start: usize, end: usize) -> Field
         return number_of(v);
     }
     if kind == 80 {
-        if text::are_all(Class::Text, v) {
+        if text::are_text(v) {
             return Field::Text { start, end };
         }
         return Field::Bad;

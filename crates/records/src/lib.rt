@@ -1,6 +1,5 @@
 // Records of delimited fields, parsed: PARSE-RECORD (003 clauses 5.5, 5.7.2 and 5.8.2; document 01, "Records").
 use checksum::Kind;
-use text::Class;
 ghost use mathlib.Core.Path.{_≡_};
 ghost use Rattle.records.specs.Records.{bodyOf, field, isRecord};
 
@@ -35,7 +34,7 @@ pub fn is_record(s: &[u8], delimiter: u8, kind: &[u8], fields: usize) -> bool
     if !pieces::is_ended(body(s), delimiter) {
         return false;
     }
-    if !text::are_all(Class::Printable, s) {
+    if !text::are_printable(s) {
         return false;
     }
     let n = pieces::piece_count(s, delimiter);

@@ -1,7 +1,6 @@
 // The supplement, a term of document 01 ("What the caller lends"): whether all of it is well formed (question 4).
 use forms::Form;
 use rows::Supplement;
-use text::Class;
 ghost use mathlib.Core.Path.{_≡_};
 ghost use Rattle.rows.specs.Supplements.{isIdentityRight, isLoadRequestRight, isWellFormed};
 
@@ -32,7 +31,7 @@ fn is_load_request_right(x: Supplement) -> bool
         return false;
     }
     let request = x.request;
-    text::are_all(Class::Text, &request[..n])
+    text::are_text(&request[..n])
 }
 
 // Whether the supplement is well formed, all of it.

@@ -1,4 +1,4 @@
 pub mod ClassLaws
 pub mod Identify
 pub mod Printable
-pub mod Zeros
+pub mod Every

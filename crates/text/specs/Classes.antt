@@ -10,6 +10,10 @@ use Rattle.text.specs.declared.Class.the-variants.{Digit, Hexadecimal, C
 abbrev pub within : ℕ → ℕ → ℕ → Bool
 within b low high = leb low b && leb b high
 
+-- a byte in a range
+unfoldable pub isBetween : ℕ → ℕ → ℕ → Bool
+isBetween low high b = within b low high
+
 -- 0-9, A-Z, a-z (003 clause 5.1.1)
 unfoldable pub isAlphanumeric : ℕ → Bool
 isAlphanumeric b = within b 48 57 || (within b 65 90 || within b 97 122)

@@ -1,10 +1,9 @@
 // Text: classes of bytes, and identifiers (document 01, "What the caller lends", "Records", "Cards"; 003 clause 5.1).
 ghost use mathlib.Core.Path.{_≡_};
-ghost use Prim.Native.Nat.{_≤_, _<_};
-ghost use lib.ListN.{length};
-ghost use Rattle.text.specs.Classes.{within, isAlphanumeric, isMark, isOf, areAll};
+ghost use Rattle.octets.specs.Strings.{allOf};
+ghost use Rattle.text.specs.Classes.{within, isBetween, isAlphanumeric, isMark, isOf, areAll};
 ghost use Rattle.text.specs.Identifiers.{isIdentifier};
-ghost use Rattle.text.specs.declared.Class.the-variants.{Zero};
+ghost use Rattle.text.specs.declared.Class.the-variants.{Text, Printable, Zero};
 
 // The classes of bytes that the papers name.
 pub enum Class {
@@ -93,28 +92,44 @@ pub fn are_all(class: Class, s: &[u8]) -> bool
     true
 }
 
-fn wide(b: u8) -> u64
-    ensures { λ r. ⌜ r ≡ b ⌝ }
-    ensures small { λ r. ⌜ r < 256 ⌝ }
-{
-    b as u64
-}
-
-// Whether every byte is zero. The bytes are added up and not tested one by one, since a sum is made of many bytes at a time.
+// Whether every byte is zero. No byte ends the loop, so that many are tested at a time.
 pub fn are_zeros(s: &[u8]) -> bool
-    requires { ⌜ length (now s) ≤ 65536 ⌝ }
     ensures { λ r. ⌜ r ≡ areAll Zero (now (s .entry)) ⌝ }
 {
-    let mut sum: u64 = 0;
+    let mut clear = true;
     let mut k = 0;
     while k < s.len() {
-        sum += wide(s[k]);
+        clear = clear & (s[k] == 0);
         k += 1;
     }
-    if sum != 0 {
-        return false;
+    clear
+}
+
+// Whether every byte is in a range, tested in the same way.
+fn are_within(s: &[u8], low: u8, high: u8) -> bool
+    ensures { λ r. ⌜ r ≡ allOf (isBetween low high) (now (s .entry)) ⌝ }
+{
+    let mut good = true;
+    let mut j = 0;
+    while j < s.len() {
+        good = good & within(s[j], low, high);
+        j += 1;
     }
-    true
+    good
+}
+
+// Whether every byte is text.
+pub fn are_text(s: &[u8]) -> bool
+    ensures { λ r. ⌜ r ≡ areAll Text (now (s .entry)) ⌝ }
+{
+    are_within(s, 32, 125)
+}
+
+// Whether every byte is printable.
+pub fn are_printable(s: &[u8]) -> bool
+    ensures { λ r. ⌜ r ≡ areAll Printable (now (s .entry)) ⌝ }
+{
+    are_within(s, 32, 126)
 }
 
 // Whether v is an identifier.

@@ -1,22 +1,21 @@
--- `text::are_zeros` meets its contract. What is added up so far is zero, and what is left is, where the whole is.
+-- `text::are_zeros` meets its contract. What was tested so far is zero, and what is left is, where the whole is.
 use mathlib.Core.Path.{_≡_}
 use mathlib.Core.Bool.{_&&_}
-use Prim.Native.Nat.{_*_, _-_, _≤_}
-use lib.Dec.{eqb}
+use Prim.Native.Nat.{_-_, _≤_}
 use lib.ListN.{length, drop}
 use Rattle.octets.specs.Strings.{allOf}
 use Rattle.text.specs.Classes.{isOf, areAll}
 use Rattle.text.specs.declared.Class.the-variants.{Zero}
-use Rattle.text.proofs.Zeros.{zeros-whole, zeros-turn, some-other, all-zero}
+use Rattle.text.proofs.Every.{zeros-whole, zeros-turn, zeros-ended}
 use borrow.Author.Needs.{needs}
 use Rattle.text.proofs.are_zeros.Statement.{statement}
 use Rattle.text.proofs.are_zeros.Tie as tie
 
 abbrev Inv-loop : tie.InvT-loop
-Inv-loop s sum₀ i₀ sum i = (length s ≤ 65536) × (i ≤ length s) × (sum ≤ 255 * i) × ((eqb sum 0 && allOf (isOf Zero) (drop i s)) ≡ areAll Zero s)
+Inv-loop s clear₀ k₀ clear k = (k ≤ length s) × ((clear && allOf (isOf Zero) (drop k s)) ≡ areAll Zero s)
 
 abbrev μ-loop : tie.MeasureT-loop
-μ-loop s sum₀ i₀ sum i = length s - i
+μ-loop s clear₀ k₀ clear k = length s - k
 
 pub are-zeros-spec : {M : Type 1} → statement M
 are-zeros-spec =
@@ -24,12 +23,9 @@ are-zeros-spec =
     (tie.spec
     Inv-loop
     μ-loop
-    (λ c. (search needs, search needs, search needs, search zeros-whole))
-    (λ c. search needs)
-    (λ c κs. search needs)
+    (λ c. (search needs, search zeros-whole))
     (λ c. search needs)
     (λ c. search needs)
     (λ c. search needs)
-    (λ c. (search needs, search needs, search needs, search zeros-turn))
-    (λ c. search some-other)
-    (λ c. search all-zero))
+    (λ c. (search needs, search zeros-turn))
+    (λ c. search zeros-ended))
