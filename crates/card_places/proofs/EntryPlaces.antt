@@ -2,8 +2,7 @@
 use mathlib.Core.Path.{_≡_, refl, sym, ap, _∙_}
 use mathlib.Core.Bool.{Bool, true, false, cond, not, _&&_}
 use mathlib.Core.List.{List, [], _∷_, _++_}
-use Prim.Native.Nat.{ℕ, zero, suc, _+_, _-_, _*_, _≤_, _<_}
-use native.Mathlib.Numerals.{add-one}
+use Prim.Native.Nat.{ℕ, suc, _+_, _-_, _*_, _≤_, _<_}
 use native.Mathlib.Omega.{arith}
 use lib.Dec.{eqb, ltb, leb}
 use lib.ListN.{length, getD, take, drop, length-drop, take-append-drop}
@@ -83,6 +82,32 @@ run-at d (b ∷ bs) h = go (eqb b d) refl h (run-at d bs)
     go true e w more = eqb-true b d e
     go false e w more = more (omega arith)
 
+-- the entry with which a list starts
+module _ (name : ℕ) (f : Form) (t : List ℕ) (e : startsWith name f t ≡ true) where
+  pub starts-short : entryLength t < length t
+  unfolding startsWith
+  starts-short = ltb-true (entryLength t) (length t) (and-first (ltb (entryLength t) (length t)) _ e)
+
+  entry : (eqb (nameOf (take (entryLength t) t)) name && inForm f (drop 3 (take (entryLength t) t))) ≡ true
+  unfolding startsWith
+  entry = and-second (ltb (entryLength t) (length t)) _ e
+
+  pub starts-named : nameOf (take (entryLength t) t) ≡ name
+  starts-named = eqb-true _ name (and-first (eqb (nameOf (take (entryLength t) t)) name) (inForm f (drop 3 (take (entryLength t) t))) entry)
+
+  starts-value : inForm f (drop 3 (take (entryLength t) t)) ≡ true
+  starts-value = and-second (eqb (nameOf (take (entryLength t) t)) name) (inForm f (drop 3 (take (entryLength t) t))) entry
+
+  starts-taken : length (take (entryLength t) t) ≡ entryLength t
+  starts-taken = length-take-le (entryLength t) t (omega (arith, starts-short))
+
+  module _ (h : 0 < name) where
+    pub starts-three : 3 ≤ entryLength t
+    starts-three = omega (arith, starts-taken, name-length (take (entryLength t) t) (omega (arith, h, starts-named)))
+
+    pub starts-front : nameOf (take 3 t) ≡ name
+    starts-front = sym (name-front t (entryLength t) starts-three) ∙ starts-named
+
 -- what is known of an entry whose value has n bytes
 pub record Framed (name : ℕ) (f : Form) (n : ℕ) (t : List ℕ) : Type 0 where
   pub room : n + 4 ≤ length t
@@ -90,46 +115,20 @@ pub record Framed (name : ℕ) (f : Form) (n : ℕ) (t : List ℕ) : Type 0 wher
   pub ended : getD t (n + 3) 0 ≡ 59
   pub value : inForm f (take n (drop 3 t)) ≡ true
 
-module _ (name : ℕ) (h : 0 < name) (f : Form) (n : ℕ) (w : isLong f n ≡ true) (t : List ℕ) where
-  module _ (e : startsWith name f t ≡ true) where
-    short : entryLength t < length t
-    unfolding startsWith
-    short = ltb-true (entryLength t) (length t) (and-first (ltb (entryLength t) (length t)) _ e)
-
-    entry : (eqb (nameOf (take (entryLength t) t)) name && inForm f (drop 3 (take (entryLength t) t))) ≡ true
-    unfolding startsWith
-    entry = and-second (ltb (entryLength t) (length t)) _ e
-
-    entry-named : nameOf (take (entryLength t) t) ≡ name
-    entry-named = eqb-true _ name (and-first (eqb (nameOf (take (entryLength t) t)) name) (inForm f (drop 3 (take (entryLength t) t))) entry)
-
-    entry-value : inForm f (drop 3 (take (entryLength t) t)) ≡ true
-    entry-value = and-second (eqb (nameOf (take (entryLength t) t)) name) (inForm f (drop 3 (take (entryLength t) t))) entry
-
-    entry-taken : length (take (entryLength t) t) ≡ entryLength t
-    entry-taken = length-take-le (entryLength t) t (omega (arith, short))
-
-    entry-three : 3 ≤ entryLength t
-    entry-three = omega (arith, entry-taken, name-length (take (entryLength t) t) (omega (arith, h, entry-named)))
-
-    pub entry-long : entryLength t ≡ n + 3
-    entry-long =
-        let l = long-value f n w (drop 3 (take (entryLength t) t)) entry-value in
-        omega (arith, l, length-drop 3 (take (entryLength t) t), entry-taken, entry-three)
-
-    pub entry-framed : Framed name f n t
-    entry-framed =
-        let k : entryLength t - 3 ≡ n = omega (arith, entry-long) in
-        record {
-          room = omega (arith, entry-long, short);
-          named = sym (name-front t (entryLength t) entry-three) ∙ entry-named;
-          ended = ap (λ (i : ℕ). getD t i 0) (sym entry-long) ∙ run-at 59 t short;
-          value = ap (λ (i : ℕ). inForm f (take i (drop 3 t))) (sym k) ∙ ap (inForm f) (sym (drop-take 3 (entryLength t) t)) ∙ entry-value;
-        }
+module _ (name : ℕ) (h : 0 < name) (f : Form) (n : ℕ) (t : List ℕ) where
+  pub starts-framed : startsWith name f t ≡ true → entryLength t ≡ n + 3 → Framed name f n t
+  starts-framed e l =
+      let k : entryLength t - 3 ≡ n = omega arith in
+      record {
+        room = omega (arith, starts-short name f t e);
+        named = starts-front name f t e h;
+        ended = ap (λ (i : ℕ). getD t i 0) (sym l) ∙ run-at 59 t (starts-short name f t e);
+        value = ap (λ (i : ℕ). inForm f (take i (drop 3 t))) (sym k) ∙ ap (inForm f) (sym (drop-take 3 (entryLength t) t)) ∙ starts-value name f t e;
+      }
 
   -- and where that stands there is an entry
   module _ (q : Framed name f n t) where
-    behind : drop n (drop 3 t) ≡ 59 ∷ drop (n + 4) t
+    pub behind : drop n (drop 3 t) ≡ 59 ∷ drop (n + 4) t
     behind =
         let i : 3 + n ≡ n + 3 = omega arith in
         let j : suc (n + 3) ≡ n + 4 = omega arith in
@@ -155,3 +154,13 @@ module _ (name : ℕ) (h : 0 < name) (f : Form) (n : ℕ) (w : isLong f n ≡ tr
         let k : entryLength t - 3 ≡ n = omega (arith, framed-long) in
         let v : inForm f (drop 3 (take (entryLength t) t)) ≡ true = ap (inForm f) (drop-take 3 (entryLength t) t) ∙ ap (λ (i : ℕ). inForm f (take i (drop 3 t))) k ∙ q .value in
         and-both (ltb (entryLength t) (length t)) _ s (and-both (eqb (nameOf (take (entryLength t) t)) name) _ (eq-eqb _ name m) v)
+
+-- where every value of the form has n bytes, an entry has so many
+module _ (name : ℕ) (h : 0 < name) (f : Form) (n : ℕ) (w : isLong f n ≡ true) (t : List ℕ) (e : startsWith name f t ≡ true) where
+  pub entry-long : entryLength t ≡ n + 3
+  entry-long =
+      let l = long-value f n w (drop 3 (take (entryLength t) t)) (starts-value name f t e) in
+      omega (arith, l, length-drop 3 (take (entryLength t) t), starts-taken name f t e, starts-three name f t e h)
+
+  pub entry-framed : Framed name f n t
+  entry-framed = starts-framed name h f n t e entry-long

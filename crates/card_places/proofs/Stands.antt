@@ -1,15 +1,14 @@
 -- The cases of an entry at a place and of a whole card, each with what the code knows where it answers as premises.
-use mathlib.Core.Path.{_≡_, refl, sym, ap, _∙_}
-use mathlib.Core.Bool.{Bool, true, false, not, cond, _&&_}
+use mathlib.Core.Path.{_≡_, refl, sym, _∙_}
+use mathlib.Core.Bool.{Bool, true, false, not, _&&_}
 use mathlib.Core.List.{List, [], _∷_}
 use Prim.Native.Nat.{ℕ, _+_, _-_, _≤_, _<_}
 use native.Mathlib.Omega.{arith}
-use lib.Dec.{eqb, ltb, leb}
-use lib.ListN.{length, getD, take, drop, length-drop, drop-of-length-le}
-use lib.Seq.{drop-drop, getD-drop}
-use borrow.Author.Tests.{eq-eqb, ne-eqb, le-leb, lt-leb, le-ltb, lt-ltb, leb-true, ltb-true, eqb-true, not-true, not-false}
+use lib.Dec.{ltb, leb}
+use lib.ListN.{length, take, drop, length-drop, drop-of-length-le}
+use lib.Seq.{drop-drop}
+use borrow.Author.Tests.{eq-eqb, ne-eqb, le-leb, lt-leb, le-ltb, lt-ltb, not-true, not-false}
 use Rattle.octets.specs.Strings.{run, isNot}
-use Rattle.octets.proofs.Flags.{nope, and-first, and-second, and-both}
 use Rattle.octets.proofs.StringLaws.{rest}
 use Rattle.pieces.proofs.PieceLaws.{run-here}
 use Rattle.text.specs.Classes.{areAll}
@@ -18,37 +17,11 @@ use Rattle.forms.specs.Forms.{inForm}
 use Rattle.forms.specs.declared.Form.{Form}
 use Rattle.cards.specs.Entries.{nameOf}
 use Rattle.cards.proofs.EntryLaws.{name-room, value-here}
-use Rattle.forms.specs.declared.Form.the-variants.{Number, Digits, Hex, Name}
-use Rattle.attributes.specs.Table.{KEN, KRN, KSL, KTC, SBM, SGC, ULM, VND, table, name, form}
+use Rattle.attributes.specs.Table.{table, name, form}
 use Rattle.attributes.specs.declared.Attribute.{Attribute}
 use Rattle.stored_cards.specs.Stored.{entryLength, isEntryOf, isStoredFrom, isStored}
-use Rattle.card_places.specs.Places.{startsWith, after, afterAll, isLong, isFramed, isClear}
-use Rattle.card_places.proofs.EntryPlaces.{Framed, entry-framed, framed-long, framed-entry}
-
--- is_framed
-module _ (s : List ℕ) (at name n : ℕ) where
-  pub short-frame : length s < at + (n + 4) → false ≡ isFramed name n s at
-  unfolding isFramed
-  short-frame h = sym (rw (lt-leb (at + (n + 4)) (length s) h))
-
-  module _ (l : at + (n + 4) ≤ length s) (m : ℕ) (p : m ≡ nameOf (take (at + 3 - at) (drop at s))) where
-    three : m ≡ nameOf (take 3 (drop at s))
-    three = let e : at + 3 - at ≡ 3 = omega arith in p ∙ rw e refl
-
-    pub other-frame : (m ≡ name → ⊥) → false ≡ isFramed name n s at
-    unfolding isFramed
-    other-frame o = sym (rw (le-leb (at + (n + 4)) (length s) l, ← three, ne-eqb m name o))
-
-    module _ (o : m ≡ name) where
-      pub open-frame : (getD s (at + (n + 3)) 0 ≡ 59 → ⊥) → false ≡ isFramed name n s at
-      unfolding isFramed
-      open-frame i = sym (rw (le-leb (at + (n + 4)) (length s) l, ← three, eq-eqb m name o, ne-eqb (getD s (at + (n + 3)) 0) 59 i))
-
-      pub framed : getD s (at + (n + 3)) 0 ≡ 59 → true ≡ isFramed name n s at
-      unfolding isFramed
-      framed i = sym (rw (le-leb (at + (n + 4)) (length s) l, ← three, eq-eqb m name o, i))
-
-pub ruleset frameCases = (short-frame, other-frame, open-frame, framed)
+use Rattle.card_places.specs.Places.{startsWith, after, afterAll, isClear}
+use Rattle.card_places.proofs.EntryPlaces.{starts-short}
 
 -- after: where an entry stands, and where none does
 module _ (name : ℕ) (f : Form) (s : List ℕ) (at : ℕ) where
@@ -59,73 +32,6 @@ module _ (name : ℕ) (f : Form) (s : List ℕ) (at : ℕ) where
   pub stands-not : startsWith name f (drop at s) ≡ false → length s + 1 ≡ after name f s at
   unfolding after
   stands-not o = sym (rw o)
-
--- after_fixed
-module _ (name : ℕ) (s : List ℕ) (at n : ℕ) (r : Bool) (e : r ≡ isFramed name n s at) (o : not r ≡ false) where
-  parts : isFramed name n s at ≡ true
-  parts = sym e ∙ not-false r o
-
-  framed-room : at + (n + 4) ≤ length s
-  unfolding isFramed
-  framed-room = leb-true (at + (n + 4)) (length s) (and-first (leb (at + (n + 4)) (length s)) _ parts)
-
-  both : (eqb (nameOf (take 3 (drop at s))) name && eqb (getD s (at + (n + 3)) 0) 59) ≡ true
-  unfolding isFramed
-  both = and-second (leb (at + (n + 4)) (length s)) _ parts
-
-  pub framed-end : at + (n + 3) ≤ length s
-  framed-end = omega (arith, framed-room)
-
-  pub framed-after : at + (n + 3) + 1 ≤ length s + 1
-  framed-after = omega (arith, framed-room)
-
-module _ (name : ℕ) (f : Form) (s : List ℕ) (at n : ℕ) (h : 0 < name) (w : isLong f n ≡ true) (r : Bool) (e : r ≡ isFramed name n s at) where
-  pub not-framed : not r ≡ true → length s + 1 ≡ after name f s at
-  unfolding isFramed
-  not-framed o = go (startsWith name f (drop at s)) refl
-    where
-      go : (t : Bool) → startsWith name f (drop at s) ≡ t → length s + 1 ≡ after name f s at
-      go false i = stands-not name f s at i
-      go true i =
-          let q = entry-framed name h f n w (drop at s) i in
-          let a = le-leb (at + (n + 4)) (length s) (omega (arith, q .room, length-drop at s)) in
-          let b = eq-eqb (nameOf (take 3 (drop at s))) name (q .named) in
-          let c = eq-eqb (getD s (at + (n + 3)) 0) 59 (sym (getD-drop at s (n + 3) 0) ∙ q .ended) in
-          let x : r ≡ true = e ∙ and-both (leb (at + (n + 4)) (length s)) _ a (and-both (eqb (nameOf (take 3 (drop at s))) name) _ b c) in
-          let y = not-true r o in
-          nope (cc)
-
-  module _ (o : not r ≡ false) where
-    module _ (b : Bool) (p : b ≡ inForm f (take (at + (n + 3) - (at + 3)) (drop (at + 3) s))) where
-      value : b ≡ inForm f (take n (drop 3 (drop at s)))
-      value =
-          let k : at + (n + 3) - (at + 3) ≡ n = omega arith in
-          p ∙ rw (k, drop-drop) refl
-
-      pub out-of-form : not b ≡ true → length s + 1 ≡ after name f s at
-      out-of-form m = go (startsWith name f (drop at s)) refl
-        where
-          go : (t : Bool) → startsWith name f (drop at s) ≡ t → length s + 1 ≡ after name f s at
-          go false i = stands-not name f s at i
-          go true i =
-              let q = entry-framed name h f n w (drop at s) i in
-              let x : b ≡ true = value ∙ q .value in
-              let y = not-true b m in
-              nope (cc)
-
-      pub in-its-form : not b ≡ false → at + (n + 3) + 1 ≡ after name f s at
-      in-its-form m =
-          let q : Framed name f n (drop at s) =
-          record {
-            room = omega (arith, framed-room name s at n r e o, length-drop at s);
-            named = eqb-true _ name (and-first (eqb (nameOf (take 3 (drop at s))) name) _ (both name s at n r e o));
-            ended = getD-drop at s (n + 3) 0 ∙ eqb-true _ 59 (and-second (eqb (nameOf (take 3 (drop at s))) name) _ (both name s at n r e o));
-            value = sym value ∙ not-false b m;
-          } in
-          let j : at + (n + 3) + 1 ≡ at + (n + 3 + 1) = omega arith in
-          j ∙ stands name f s at (framed-entry name h f n w (drop at s) q) (n + 3) (framed-long name h f n w (drop at s) q)
-
-pub ruleset fixedCases = (not-framed, out-of-form, in-its-form)
 
 -- after_any
 pub any-room : (name : ℕ) (s : List ℕ) (at e : ℕ) → e ≡ at + run (isNot 59) (drop at s) → e < length s → (m : ℕ) → m ≡ nameOf (take (e - at) (drop at s)) → m ≡ name → 0 < name → at + 3 ≤ e
@@ -184,12 +90,8 @@ pub ruleset clearCases = (other-space, beyond, only-zeros)
 
 -- an entry that stands ends within the card; what follows it is judged by the rest of the table
 module _ (n : ℕ) (f : Form) (s : List ℕ) (at : ℕ) (e : startsWith n f (drop at s) ≡ true) where
-  stands-short : entryLength (drop at s) < length (drop at s)
-  unfolding startsWith
-  stands-short = ltb-true (entryLength (drop at s)) (length (drop at s)) (and-first (ltb (entryLength (drop at s)) (length (drop at s))) _ e)
-
   pub stands-within : after n f s at ≤ length s
-  stands-within = omega (arith, stands n f s at e (entryLength (drop at s)) refl, stands-short, length-drop at s)
+  stands-within = omega (arith, stands n f s at e (entryLength (drop at s)) refl, starts-short n f (drop at s) e, length-drop at s)
 
 module _ (a : Attribute) (rs : List Attribute) (s : List ℕ) (at : ℕ) where
   pub first-entry : isStoredFrom (a ∷ rs) (drop at s) ≡ (startsWith (name a) (form a) (drop at s) && isStoredFrom rs (drop (at + (entryLength (drop at s) + 1)) s))
@@ -211,7 +113,7 @@ module _ (a : Attribute) (rs : List Attribute) (s : List ℕ) (at : ℕ) where
 
 -- find_places: beyond the end nothing stands
 module _ (s : List ℕ) where
-  past-stays : (n : ℕ) (f : Form) → after n f s (length s + 1) ≡ length s + 1
+  pub past-stays : (n : ℕ) (f : Form) → after n f s (length s + 1) ≡ length s + 1
   past-stays n f = sym (any-past n f s (length s + 1) (omega arith))
 
   all-past : (rs : List Attribute) → afterAll rs s (length s + 1) ≡ length s + 1
@@ -231,35 +133,6 @@ module _ (s : List ℕ) where
           let x : after (name a) (form a) s at ≡ length s + 1 = sym (stands-not (name a) (form a) s at e) in
           first-not a rs s at e ∙ sym (rw (x, all-past rs, lt-leb (length s + 1) (length s) (omega arith)))
 
-  stored-after : (e : ℕ) → e ≡ afterAll table s 0 → (r : Bool) → r ≡ isClear s e → r ≡ isStored s
+  pub stored-after : (e : ℕ) → e ≡ afterAll table s 0 → (r : Bool) → r ≡ isClear s e → r ≡ isStored s
   unfolding isStored isClear
   stored-after e p r q = rw (stored-from table 0 (omega arith), ← p) q
-
--- the places of the entries, one after the other
-module _ (s : List ℕ) (ken : ℕ) (a : ken ≡ afterAll (take 7 table) s 0) (krn : ℕ) (b : krn ≡ after KEN (Number 3 0 255) s ken) where
-  pub krn-place : krn ≡ afterAll (take 8 table) s 0
-  unfolding table
-  krn-place = rw (b, a)
-
-  module _ (ksl : ℕ) (c : ksl ≡ after KRN (Number 1 1 9) s krn) where
-    pub ksl-place : ksl ≡ afterAll (take 9 table) s 0
-    unfolding table
-    ksl-place = rw (c, b, a)
-
-    module _ (ktc : ℕ) (d : ktc ≡ after KSL Name s ksl) where
-      pub ktc-place : ktc ≡ afterAll (take 10 table) s 0
-      unfolding table
-      ktc-place = rw (d, c, b, a)
-
-      module _ (sbm : ℕ) (e : sbm ≡ after KTC (Number 1 0 3) s ktc) (sgc : ℕ) (f : sgc ≡ after SBM (Hex 4) s sbm) where
-        pub sgc-place : sgc ≡ afterAll (take 12 table) s 0
-        unfolding table
-        sgc-place = rw (f, e, d, c, b, a)
-
-        module _ (ulm : ℕ) (g : ulm ≡ after SGC (Digits 10) s sgc) (vnd : ℕ) (h : vnd ≡ after ULM (Number 9 0 999999999) s ulm) (end : ℕ) (i : end ≡ after VND (Number 9 0 999999999) s vnd) where
-          all-places : end ≡ afterAll table s 0
-          unfolding table
-          all-places = rw (i, h, g, f, e, d, c, b, a)
-
-          pub is-stored : (r : Bool) → r ≡ isClear s end → r ≡ isStored s
-          is-stored r q = stored-after s end all-places r q

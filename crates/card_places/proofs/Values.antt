@@ -1,30 +1,29 @@
 -- In a card as stored, a name's value is what stands in its entry, from three bytes after the entry's place up to the semicolon.
 use mathlib.Core.Path.{_≡_, refl, sym, ap, _∙_}
-use mathlib.Core.Bool.{Bool, true, false, not, _&&_}
+use mathlib.Core.Bool.{Bool, true, false, not}
 use mathlib.Core.List.{List, [], _∷_, _++_}
 use mathlib.Core.Option.{some}
 use Prim.Native.Nat.{ℕ, _+_, _-_, _≤_, _<_}
 use native.Mathlib.Omega.{arith}
-use lib.Dec.{T, eqb, ltb}
+use lib.Dec.{T, eqb}
 use lib.ListN.{length, take, drop, length-drop}
 use lib.Seq.{drop-drop, length-take-le, take-all}
-use borrow.Author.Tests.{eq-eqb, ltb-true, eqb-true}
+use borrow.Author.Tests.{eq-eqb}
 use Rattle.octets.proofs.Flags.{and-first, and-second, and-left, and-right, no}
 use Rattle.octets.proofs.StringLaws.{drop-take}
 use Rattle.pieces.specs.Pieces.{pieces}
 use Rattle.pieces.proofs.PieceLaws.{pieces-first}
-use Rattle.forms.specs.Forms.{inForm}
 use Rattle.forms.specs.declared.Form.{Form}
 use Rattle.forms.specs.declared.Form.the-variants.{Number, Digits, Name}
-use Rattle.cards.specs.Entries.{nameOf, valueIn, valueOf, orElse}
-use Rattle.cards.proofs.EntryLaws.{a-name, name-length}
+use Rattle.cards.specs.Entries.{valueIn, valueOf, orElse}
+use Rattle.cards.proofs.EntryLaws.{a-name}
 use Rattle.attributes.specs.Table.{KRN, KSL, SGC, table, name, form}
 use Rattle.attributes.specs.declared.Attribute.{Attribute}
 use Rattle.attributes.specs.declared.Presence.the-variants.{Required, Engine}
 use Rattle.attributes.proofs.TableLaws.{allRows}
 use Rattle.stored_cards.specs.Stored.{entryLength, isStoredFrom, isStored}
 use Rattle.card_places.specs.Places.{startsWith, after, afterAll, isLong}
-use Rattle.card_places.proofs.EntryPlaces.{entry-long}
+use Rattle.card_places.proofs.EntryPlaces.{starts-short, starts-named, starts-three, entry-long}
 use Rattle.card_places.proofs.Stands.{stands, stands-within, first-entry, first-stands}
 
 -- an entry of a name, its value in form, stands at a place
@@ -36,20 +35,8 @@ abbrev entryValue : List ℕ → List ℕ
 entryValue t = drop 3 (take (entryLength t) t)
 
 -- the first piece of what starts with an entry
-module _ (n : ℕ) (f : Form) (t : List ℕ) (e : startsWith n f t ≡ true) where
-  starts-short : entryLength t < length t
-  unfolding startsWith
-  starts-short = ltb-true (entryLength t) (length t) (and-first (ltb (entryLength t) (length t)) _ e)
-
-  starts-named : nameOf (take (entryLength t) t) ≡ n
-  unfolding startsWith
-  starts-named = eqb-true _ n (and-first (eqb (nameOf (take (entryLength t) t)) n) _ (and-second (ltb (entryLength t) (length t)) _ e))
-
-  starts-three : 0 < n → 3 ≤ entryLength t
-  starts-three h = omega (arith, length-take-le (entryLength t) t (omega (arith, starts-short)), name-length (take (entryLength t) t) (omega (arith, h, starts-named)))
-
-  starts-pieces : pieces 59 t ≡ take (entryLength t) t ∷ pieces 59 (drop (entryLength t + 1) t)
-  starts-pieces = pieces-first 59 t starts-short
+starts-pieces : (n : ℕ) (f : Form) (t : List ℕ) → startsWith n f t ≡ true → pieces 59 t ≡ take (entryLength t) t ∷ pieces 59 (drop (entryLength t + 1) t)
+starts-pieces n f t e = pieces-first 59 t (starts-short n f t e)
 
 -- a is behind the attributes ps, none of which has its name
 abbrev isOther : Attribute → Attribute → Bool

@@ -3,7 +3,7 @@ use Prim.Native.Nat.{ℕ, _+_}
 use mathlib.Core.Bool.{Bool, cond, _&&_, false}
 use mathlib.Core.List.{List, [], _∷_}
 use lib.Dec.{eqb, leb, ltb}
-use lib.ListN.{length, getD, take, drop}
+use lib.ListN.{length, take, drop}
 use Rattle.text.specs.Classes.{areAll}
 use Rattle.text.specs.declared.Class.the-variants.{Zero}
 use Rattle.forms.specs.Forms.{inForm}
@@ -13,6 +13,7 @@ use Rattle.cards.specs.Entries.{nameOf}
 use Rattle.attributes.specs.Table.{name, form}
 use Rattle.attributes.specs.declared.Attribute.{Attribute}
 use Rattle.stored_cards.specs.Stored.{entryLength}
+use Rattle.patterns.specs.Patterns.{fits}
 
 -- s starts with an entry of the name, its value in form
 unfoldable pub startsWith : ℕ → Form → List ℕ → Bool
@@ -39,10 +40,9 @@ isLong HexSome n = false
 isLong Name n = false
 isLong Empty n = eqb n 0
 
--- a name, n bytes and a semicolon stand at a place
-unfoldable pub isFramed : ℕ → ℕ → List ℕ → ℕ → Bool
-isFramed name n s at =
-    leb (at + (n + 4)) (length s) && (eqb (nameOf (take 3 (drop at s))) name && eqb (getD s (at + (n + 3)) 0) 59)
+-- the place after bytes that fit a pattern and stand at a place; beyond the end, if they do not fit
+unfoldable pub afterFitting : List ℕ → List ℕ → ℕ → ℕ
+afterFitting p s at = cond (fits p (drop at s)) (at + length p) (length s + 1)
 
 -- s is 256 bytes, and from a place within them on only zeros stand
 unfoldable pub isClear : List ℕ → ℕ → Bool

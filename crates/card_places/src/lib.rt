@@ -1,61 +1,55 @@
 // A card as stored, read once: whether it is one, and where the values stand that question 3 compares (document 01, Cards and question 3).
-// Most values have one length, so that the place of an entry is known and no semicolon is looked for.
-use attributes::ACT;
-use attributes::BDT;
-use attributes::CLM;
-use attributes::CLU;
-use attributes::DKG;
-use attributes::IUT;
-use attributes::KCV;
+// Most values have one length, so that most bytes stand at known places and are compared with a pattern: a digit for itself and the smaller ones, F for every
+// hexadecimal digit, any other byte for itself.
 use attributes::KEN;
-use attributes::KRN;
 use attributes::KSL;
-use attributes::KTC;
-use attributes::SBM;
-use attributes::SGC;
 use attributes::ULM;
 use attributes::VND;
 use forms::Form;
+use text::Class;
 ghost use mathlib.Core.Path.{_≡_};
 ghost use mathlib.Core.Bool.{true};
+ghost use mathlib.Core.Logic.{_⊎_};
 ghost use Prim.Native.Nat.{_+_, _≤_, _<_};
 ghost use lib.ListN.{length, take};
-ghost use Rattle.attributes.specs.Table.{table};
+ghost use Rattle.octets.specs.Strings.{run};
+ghost use Rattle.text.specs.Classes.{isOf, areAll};
+ghost use Rattle.text.specs.declared.Class.the-variants.{Digit};
+ghost use Rattle.decimals.specs.Decimals.{isNumber};
+ghost use Rattle.forms.specs.declared.Form.the-variants.{Number};
+ghost use Rattle.attributes.specs.Table.{KEN, KRN, table};
 ghost use Rattle.stored_cards.specs.Stored.{isStored};
-ghost use Rattle.card_places.specs.Places.{after, afterAll, isLong, isFramed, isClear};
+ghost use Rattle.card_places.specs.Places.{after, afterAll, afterFitting, isClear};
 
-// Whether a name, n bytes and a semicolon stand at a place.
-fn is_framed(s: &[u8], at: usize, name: u32, n: usize) -> bool
-    requires { ⌜ (at ≤ length (now s) + 1) × (n ≤ 16) ⌝ }
-    ensures { λ r. ⌜ r ≡ isFramed name n (now (s .entry)) at ⌝ }
-{
-    if s.len() < at + (n + 4) {
-        return false;
-    }
-    if cards::name_of(&s[at..at + 3]) != name {
-        return false;
-    }
-    if s[at + (n + 3)] != 59 {
-        return false;
-    }
-    true
-}
-
-// The place after an entry whose value has n bytes.
-fn after_fixed(s: &[u8], at: usize, name: u32, form: Form, n: usize) -> usize
-    requires { ⌜ (at ≤ length (now s) + 1) × (n ≤ 16) × (0 < name) × (isLong form n ≡ true) ⌝ }
-    ensures { λ r. ⌜ r ≡ after name form (now (s .entry)) at ⌝ }
+// The place after entries whose values have one length, told by a pattern.
+fn after_fitting(s: &[u8], at: usize, pattern: &[u8]) -> usize
+    requires { ⌜ (at ≤ length (now s) + 1) × (0 < length (now pattern)) × (length (now pattern) ≤ 256) ⌝ }
+    ensures { λ r. ⌜ r ≡ afterFitting (now (pattern .entry)) (now (s .entry)) at ⌝ }
     ensures within { λ r. ⌜ r ≤ length (now (s .entry)) + 1 ⌝ }
 {
-    if !is_framed(s, at, name, n) {
+    if s.len() < at + pattern.len() {
         return s.len() + 1;
     }
-    let start = at + 3;
-    let end = at + (n + 3);
-    if !forms::in_form(form, &s[start..end]) {
+    if !patterns::fits(s, at, pattern) {
         return s.len() + 1;
     }
-    end + 1
+    at + pattern.len()
+}
+
+// The place after the entry of KRN, 1 to 9.
+fn after_revision(s: &[u8], at: usize) -> usize
+    requires { ⌜ at ≤ length (now s) + 1 ⌝ }
+    ensures { λ r. ⌜ r ≡ after KRN (Number 1 1 9) (now (s .entry)) at ⌝ }
+    ensures within { λ r. ⌜ r ≤ length (now (s .entry)) + 1 ⌝ }
+{
+    let end = after_fitting(s, at, b"KRN9;");
+    if s.len() < end {
+        return s.len() + 1;
+    }
+    if s[at + 3] < 49 {
+        return s.len() + 1;
+    }
+    end
 }
 
 // The place after an entry whose value ends where its semicolon stands.
@@ -81,18 +75,102 @@ fn after_any(s: &[u8], at: usize, name: u32, form: Form) -> usize
     end + 1
 }
 
-// The place after the first seven entries, ACT to KCV.
-fn after_first(s: &[u8]) -> usize
-    ensures { λ r. ⌜ r ≡ afterAll (take 7 table) (now (s .entry)) 0 ⌝ }
+// How many digits stand at the front.
+fn digit_count(v: &[u8]) -> usize
+    ensures { λ r. ⌜ r ≡ run (isOf Digit) (now (v .entry)) ⌝ }
+    ensures within { λ r. ⌜ r ≤ length (now (v .entry)) ⌝ }
+{
+    let mut i = 0;
+    while i < v.len() {
+        if !text::is_of(Class::Digit, v[i]) {
+            return i;
+        }
+        i += 1;
+    }
+    i
+}
+
+fn lesser(a: usize, b: usize) -> usize
+    ensures { λ r. ⌜ (r ≤ a) × (r ≤ b) ⌝ }
+    ensures one { λ r. ⌜ (r ≡ a) ⊎ (r ≡ b) ⌝ }
+{
+    if a < b { a } else { b }
+}
+
+// Whether digits are a number up to high, of at most so many of them.
+fn is_number(v: &[u8], digits: usize, high: u64) -> bool
+    requires { ⌜ (digits ≤ 10) × (areAll Digit (now v) ≡ true) ⌝ }
+    ensures { λ r. ⌜ r ≡ isNumber digits 0 high (now (v .entry)) ⌝ }
+{
+    if v.len() < 1 {
+        return false;
+    }
+    if digits < v.len() {
+        return false;
+    }
+    if (v.len() != 1) & (v[0] == 48) {
+        return false;
+    }
+    decimals::decimal(v) <= high
+}
+
+// The place after an entry whose value is a number up to high, of at most so many digits. No semicolon is looked
+// for, and no more digits are gone over than it may have.
+fn after_number(s: &[u8], at: usize, name: u32, digits: usize, high: u64) -> usize
+    requires { ⌜ (at ≤ length (now s) + 1) × (0 < name) × (digits ≤ 10) ⌝ }
+    ensures { λ r. ⌜ r ≡ after name (Number digits 0 high) (now (s .entry)) at ⌝ }
     ensures within { λ r. ⌜ r ≤ length (now (s .entry)) + 1 ⌝ }
 {
-    let bdt = after_fixed(s, 0, ACT, Form::Timestamp, 16);
-    let clm = after_fixed(s, bdt, BDT, Form::Timestamp, 16);
-    let clu = after_fixed(s, clm, CLM, Form::Hex(8), 8);
-    let dkg = after_fixed(s, clu, CLU, Form::Number(1, 0, 0), 1);
-    let iut = after_fixed(s, dkg, DKG, Form::Algorithm, 2);
-    let kcv = after_fixed(s, iut, IUT, Form::Timestamp, 16);
-    after_fixed(s, kcv, KCV, Form::Hex(6), 6)
+    if s.len() < at + 3 {
+        return s.len() + 1;
+    }
+    if cards::name_of(&s[at..at + 3]) != name {
+        return s.len() + 1;
+    }
+    let start = at + 3;
+    let limit = lesser(start + digits + 1, s.len());
+    let end = start + digit_count(&s[start..limit]);
+    if s.len() <= end {
+        return s.len() + 1;
+    }
+    if s[end] != 59 {
+        return s.len() + 1;
+    }
+    if !is_number(&s[start..end], digits, high) {
+        return s.len() + 1;
+    }
+    end + 1
+}
+
+// The place of KEN's entry, the eighth; beyond the end, where the seven before it or its name do not stand. The name is compared with them, since that makes
+// 96 bytes, six times the sixteen that are compared at a time.
+fn after_first(s: &[u8]) -> usize
+    ensures { λ r. ⌜ after KEN (Number 3 0 255) (now (s .entry)) r ≡ afterAll (take 8 table) (now (s .entry)) 0 ⌝ }
+    ensures within { λ r. ⌜ r ≤ length (now (s .entry)) + 1 ⌝ }
+{
+    if s.len() < 96 {
+        return s.len() + 1;
+    }
+    if !patterns::fits(
+        s,
+        0,
+        b"ACT99999999T999999Z;BDT99999999T999999Z;CLMFFFFFFFF;CLU0;DKG04;IUT99999999T999999Z;KCVFFFFFF;KEN",
+    ) {
+        return s.len() + 1;
+    }
+    if !forms::in_form(Form::Timestamp, &s[3..19]) {
+        return s.len() + 1;
+    }
+    if !forms::in_form(Form::Timestamp, &s[23..39]) {
+        return s.len() + 1;
+    }
+    if !forms::in_form(Form::Algorithm, &s[60..62]) {
+        return s.len() + 1;
+    }
+    if !forms::in_form(Form::Timestamp, &s[66..82]) {
+        return s.len() + 1;
+    }
+    93
 }
 
 // Whether s is 256 bytes, and from a place within them on only zeros stand.
@@ -126,14 +204,13 @@ pub fn find_places(s: &[u8]) -> Places
     ensures sgc { λ p. ⌜ p .sgc ≡ afterAll (take 12 table) (now (s .entry)) 0 ⌝ }
 {
     let ken = after_first(s);
-    let krn = after_any(s, ken, KEN, Form::Number(3, 0, 255));
-    let ksl = after_fixed(s, krn, KRN, Form::Number(1, 1, 9), 1);
+    let krn = after_number(s, ken, KEN, 3, 255);
+    let ksl = after_revision(s, krn);
     let ktc = after_any(s, ksl, KSL, Form::Name);
-    let sbm = after_fixed(s, ktc, KTC, Form::Number(1, 0, 3), 1);
-    let sgc = after_fixed(s, sbm, SBM, Form::Hex(4), 4);
-    let ulm = after_fixed(s, sgc, SGC, Form::Digits(10), 10);
-    let vnd = after_any(s, ulm, ULM, Form::Number(9, 0, 999999999));
-    let end = after_any(s, vnd, VND, Form::Number(9, 0, 999999999));
+    let sgc = after_fitting(s, ktc, b"KTC3;SBMFFFF;");
+    let ulm = after_fitting(s, sgc, b"SGC9999999999;");
+    let vnd = after_number(s, ulm, ULM, 9, 999999999);
+    let end = after_number(s, vnd, VND, 9, 999999999);
     let stored = is_clear(s, end);
     Places {
         stored,

@@ -14,14 +14,6 @@ use Rattle.pieces.specs.Pieces.{pieces, isEnded}
 use Rattle.octets.proofs.Flags.{and-first, and-second}
 use Rattle.octets.proofs.StringLaws.{rest, run-le, run-stopped, run-turn}
 
--- until: i and what is left of the run are the whole, x
-module _ (d : ℕ) (s : List ℕ) (i x : ℕ) (inv : i + run (isNot d) (drop i s) ≡ x) (h : i < length s) where
-  pub until-stopped : getD s i 0 ≡ d → i ≡ x
-  until-stopped e = run-stopped (isNot d) s i x inv h (rw (eq-eqb (getD s i 0) d e))
-
-  pub until-turn : (getD s i 0 ≡ d → ⊥) → i + 1 + run (isNot d) (drop (i + 1) s) ≡ x
-  until-turn e = run-turn (isNot d) s i x inv h (rw (ne-eqb (getD s i 0) d e))
-
 -- the first piece of a list that has a delimiter, and what follows it; t is whether the list starts with the delimiter
 module _ (d b : ℕ) (bs : List ℕ) where
   first-of : (t : Bool) → eqb b d ≡ t → run (isNot d) (b ∷ bs) < length (b ∷ bs)

@@ -6,28 +6,13 @@ ghost use lib.ListN.{length, drop, getD};
 ghost use Rattle.octets.specs.Strings.{isNot, run};
 ghost use Rattle.pieces.specs.Pieces.{pieces, isEnded};
 
-// How many bytes stand before the first delimiter, or before the end.
-fn until(s: &[u8], delimiter: u8) -> usize
-    ensures { λ r. ⌜ r ≡ run (isNot delimiter) (now (s .entry)) ⌝ }
-    ensures short { λ r. ⌜ r ≤ length (now (s .entry)) ⌝ }
-{
-    let mut i = 0;
-    while i < s.len() {
-        if s[i] == delimiter {
-            return i;
-        }
-        i += 1;
-    }
-    i
-}
-
 // Where the piece that starts at a place ends: at its delimiter, or at the end of s.
 pub fn piece_end(s: &[u8], at: usize, delimiter: u8) -> usize
     requires { ⌜ at ≤ length (now s) ⌝ }
     ensures { λ r. ⌜ r ≡ at + run (isNot delimiter) (drop at (now (s .entry))) ⌝ }
     ensures within { λ r. ⌜ r ≤ length (now (s .entry)) ⌝ }
 {
-    at + until(&s[at..], delimiter)
+    at + spans::until(&s[at..], delimiter)
 }
 
 // The k-th piece, counted from 0, and nothing where there are not so many.

@@ -1,5 +1,5 @@
 -- `card_places::find_places` meets its contract: each place is the one after the entry before it.
-use Rattle.card_places.proofs.Stands.{krn-place, ksl-place, ktc-place, sgc-place, is-stored}
+use Rattle.card_places.proofs.Fitting.{krn-place, ksl-place, ktc-place, sgc-place, is-stored}
 use borrow.Author.Needs.{needs}
 use Rattle.card_places.proofs.find_places.Statement.{statement}
 use Rattle.card_places.proofs.find_places.Tie as tie
@@ -12,8 +12,9 @@ find-places-spec =
     (λ c κs. search needs)
     (λ c κs. search needs)
     (λ c κs. search needs)
+    (λ c. search needs)
     (λ c κs. search needs)
-    (λ c κs. search needs)
+    (λ c. search needs)
     (λ c κs. search needs)
     (λ c κs. search needs)
     (λ c κs. search needs)

@@ -1,13 +1,13 @@
--- `pieces::until` meets its contract. The place and what is left of the run are the whole run.
+-- `spans::count` meets its contract. The place and what is left of the run are the whole run.
 use mathlib.Core.Path.{_≡_}
 use Prim.Native.Nat.{_+_, _-_, _≤_}
 use borrow.Author.Needs.{needs}
 use lib.ListN.{length, drop}
 use Rattle.octets.specs.Strings.{isNot, run}
 use Rattle.octets.proofs.StringLaws.{run-ended}
-use Rattle.pieces.proofs.PieceLaws.{until-stopped, until-turn}
-use Rattle.pieces.proofs.until.Statement.{statement}
-use Rattle.pieces.proofs.until.Tie as tie
+use Rattle.spans.proofs.SpanLaws.{count-stopped, count-turn}
+use Rattle.spans.proofs.count.Statement.{statement}
+use Rattle.spans.proofs.count.Tie as tie
 
 abbrev Inv-loop : tie.InvT-loop
 Inv-loop s delimiter i₀ i = (i ≤ length s) × (i + run (isNot delimiter) (drop i s) ≡ run (isNot delimiter) s)
@@ -15,16 +15,16 @@ Inv-loop s delimiter i₀ i = (i ≤ length s) × (i + run (isNot delimiter) (dr
 abbrev μ-loop : tie.MeasureT-loop
 μ-loop s delimiter i₀ i = length s - i
 
-pub until-spec : {M : Type 1} → statement M
-until-spec =
+pub count-spec : {M : Type 1} → statement M
+count-spec =
     tie.close
     (tie.spec
     Inv-loop
     μ-loop
     (λ c. search needs)
     (λ c. search needs)
-    (λ c. (search until-stopped, search needs))
+    (λ c. (search count-stopped, search needs))
     (λ c. search needs)
     (λ c. search needs)
-    (λ c. (search needs, search until-turn))
+    (λ c. (search needs, search count-turn))
     (λ c. (search run-ended, search needs)))
