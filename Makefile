@@ -1,5 +1,5 @@
 # The commands that README.md names.
-.PHONY: test run requests vectors compare fuzz bench format
+.PHONY: test run vectors compare fuzz bench format
 
 # Proves every crate from nothing, tries the must-fail edits, runs the programs and the comparison tests.
 test:
@@ -8,10 +8,6 @@ test:
 # Proves and runs the console on the customer's story, scripts/story.txt.
 run:
 	@bash tools/run.sh console
-
-# Proves and runs the program that hands in requests, and prints what each is answered.
-requests:
-	@bash tools/run.sh requests
 
 # Proves and runs the vectors program, and prints what each vector gives.
 vectors:

@@ -2,7 +2,7 @@
 # Compares a console with the second implementation's on scripts: tools/compare/console.sh PROGRAM SCRIPTS..
 # Before diff the fields of SM?GL are sorted, since their sequence is open (reference/src/bin/sort_lists.rs). A line `show`
 # is handed in as a comment, since it is text for people. Without arguments the comparison tries itself, and then compares
-# the console of crates/ on the repository's scripts and on random ones.
+# the console of crates/ on the repository's scripts and on random ones; what it prints on the former is held to their files, too.
 set -eu -o pipefail
 top=$(cd "$(dirname "$0")/../.." && pwd)
 (cd "$top/reference" && cargo build --quiet --offline --release --bin console --bin random_script --bin sort_lists)
@@ -57,5 +57,13 @@ finds "{ cat; exit 1; }"
 echo "console: the comparison finds wrong consoles"
 
 (cd "$top" && rt check console) | grep -E '^rt: (console|ok)'
+for script in "$top"/scripts/*.txt; do
+    LC_ALL=C sed 's/^show$/#/' "$script" | "$top/target/bin/console" | diff --text "${script%.txt}.out" - > "$work/difference" || {
+        echo "$script: stored <, printed >"
+        head -n 20 "$work/difference"
+        exit 1
+    }
+done
+echo "console: what it prints on the repository's scripts is what stands beside them"
 for seed in $(seq 20); do "$built/random_script" "$seed" 3000 > "$work/random-$seed.txt"; done
 compare "$top/target/bin/console" "$top"/scripts/*.txt "$work"/random-*.txt

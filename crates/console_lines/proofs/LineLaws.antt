@@ -14,33 +14,16 @@ use Rattle.octets.proofs.Flags.{and-first, and-second}
 use Rattle.decimals.specs.Decimals.{decimal, isNumber}
 use Rattle.decimals.proofs.NumberLaws.{number-short, number-most, number-least}
 use Rattle.fields.specs.Values.{isOctets}
-use Rattle.identities.proofs.Chain.{form-of}
 use Rattle.console_words.specs.Words.{word, rest, hasRest}
-use Rattle.console_words.specs.Verbs.{verbOf}
-use Rattle.console_words.specs.declared.Part.{Part}
-use Rattle.console_words.specs.declared.Verb.{Verb}
-use Rattle.console_words.specs.declared.Verb.the-variants as verb
-use Rattle.console_words.proofs.Verb.{the-type}
-use Rattle.console_lines.specs.Lines.{areTables, tablesLine, bufferLine, partLine, passedLine, sendLine, rawLine, isSlotRow, isSlot, slotLine, isRegister, registerLine, usableLine, aloneLine, restLine, lineOf}
+use Rattle.console_forms.specs.LineForms.{areTables, isSlotRow, isSlot, isRegister}
+use Rattle.console_verbs.specs.Verbs.{verbOf}
+use Rattle.console_verbs.specs.declared.Part.{Part}
+use Rattle.console_verbs.specs.declared.Verb.{Verb}
+use Rattle.console_verbs.specs.declared.Verb.the-variants as verb
+use Rattle.console_verbs.proofs.Verb.{the-type}
+use Rattle.console_lines.specs.Lines.{tablesLine, bufferLine, partLine, passedLine, sendLine, rawLine, slotLine, registerLine, usableLine, aloneLine, restLine, lineOf}
 use Rattle.console_lines.specs.declared.Line.{Line}
 use Rattle.console_lines.specs.declared.Line.the-variants.{Nothing, Tables, Buffer, Set, Passed, Send, Raw, Slot, Register, Rows, Usable, Show, Other}
-
--- a word that was cut out, judged
-pub cut-number : (v w : List ℕ) (digits low high : ℕ) → v ≡ w → (t : Bool) → t ≡ isNumber digits low high v → t ≡ isNumber digits low high w
-cut-number v w digits low high e t p = rw (← e) p
-
-pub cut-row : (v w : List ℕ) → v ≡ w → (t : Bool) → t ≡ isSlotRow v → t ≡ isSlotRow w
-cut-row v w e t p = rw (← e) p
-
--- the word, and the rest, after the first word
-module _ (s u v : List ℕ) (e : u ≡ rest s) where
-  pub second-word : v ≡ word u → v ≡ word (rest s)
-  second-word p = rw (← e) p
-
-  pub second-rest : v ≡ rest u → v ≡ rest (rest s)
-  second-rest p = rw (← e) p
-
-pub ruleset cuts = (cut-number, cut-row, form-of, second-word, second-rest)
 
 -- a number of at most ten digits can be read, and is at most the highest
 module _ (digits low high : ℕ) (v w : List ℕ) (e : v ≡ w) (p : isNumber digits low high w ≡ true) where

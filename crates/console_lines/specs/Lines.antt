@@ -1,26 +1,22 @@
 -- What a line asks for (docs/CONSOLE.md). r is what stands after its first space. A row is a place among the rows, counted from 0.
 use Prim.Native.Nat.{ℕ, _-_}
-use mathlib.Core.Bool.{Bool, cond, _&&_}
+use mathlib.Core.Bool.{cond, _&&_}
 use mathlib.Core.List.{List, [], _∷_}
 use lib.Dec.{eqb, ltb, leb}
 use lib.ListN.{length, getD}
 use Rattle.octets.specs.Strings.{sameBytes}
 use Rattle.decimals.specs.Decimals.{decimal, isNumber}
 use Rattle.fields.specs.Values.{isOctets}
-use Rattle.forms.specs.Forms.{inForm}
-use Rattle.forms.specs.declared.Form.the-variants.{Hex}
 use Rattle.console_words.specs.Words.{word, rest, hasRest}
-use Rattle.console_words.specs.Verbs.{verbOf}
-use Rattle.console_words.specs.declared.Part.{Part}
-use Rattle.console_words.specs.declared.Verb.{Verb}
-use Rattle.console_words.specs.declared.Verb.the-variants as verb
+use Rattle.console_forms.specs.LineForms.{areTables, isSlot, isRegister}
+use Rattle.console_verbs.specs.Verbs.{verbOf}
+use Rattle.console_verbs.specs.declared.Part.{Part}
+use Rattle.console_verbs.specs.declared.Verb.{Verb}
+use Rattle.console_verbs.specs.declared.Verb.the-variants as verb
 use Rattle.console_lines.specs.declared.Line.{Line}
 use Rattle.console_lines.specs.declared.Line.the-variants.{Nothing, Tables, Buffer, Set, Passed, Send, Raw, Slot, Register, Rows, Usable, Show, Other}
 
--- tables S R: S from 0 to 9, R from 0 to 33
-unfoldable pub areTables : List ℕ → Bool
-areTables r = isNumber 1 0 9 (word r) && isNumber 2 0 33 (rest r)
-
+-- tables S R
 unfoldable pub tablesLine : List ℕ → Line
 tablesLine r = cond (areTables r) (Tables (decimal (word r)) (decimal (rest r))) Other
 
@@ -44,21 +40,11 @@ sendLine r = cond (leb (length r) 2043) Send Other
 unfoldable pub rawLine : List ℕ → Line
 rawLine r = cond (leb (length r) 4092 && isOctets r) Raw Other
 
--- NAME FINGERPRINT TVP: 40, 16 and 16 bytes, two digits each
-unfoldable pub isSlotRow : List ℕ → Bool
-isSlotRow d = inForm (Hex 80) (word d) && (inForm (Hex 32) (word (rest d)) && inForm (Hex 32) (rest (rest d)))
-
--- slot K S NAME FINGERPRINT TVP: K from 1 to 8, S from 0 to 255
-unfoldable pub isSlot : List ℕ → Bool
-isSlot r = isNumber 1 1 8 (word r) && (isNumber 3 0 255 (word (rest r)) && isSlotRow (rest (rest r)))
-
+-- slot K S NAME FINGERPRINT TVP
 unfoldable pub slotLine : List ℕ → Line
 slotLine r = cond (isSlot r) (Slot (decimal (word r) - 1) (decimal (word (rest r)))) Other
 
--- register K CARD: K from 1 to 32, 256 bytes
-unfoldable pub isRegister : List ℕ → Bool
-isRegister r = isNumber 2 1 32 (word r) && inForm (Hex 512) (rest r)
-
+-- register K CARD
 unfoldable pub registerLine : List ℕ → Line
 registerLine r = cond (isRegister r) (Register (decimal (word r) - 1)) Other
 

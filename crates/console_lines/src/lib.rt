@@ -1,9 +1,8 @@
 // A line of the console (docs/CONSOLE.md): what it asks for. What it asks it with stands after its first space, and is not in the answer.
-use console_words::Part;
-use console_words::Verb;
-use forms::Form;
+use console_verbs::Part;
+use console_verbs::Verb;
 ghost use mathlib.Core.Path.{_≡_};
-ghost use Rattle.console_lines.specs.Lines.{areTables, tablesLine, bufferLine, partLine, passedLine, sendLine, rawLine, isSlotRow, isSlot, slotLine, isRegister, registerLine, usableLine, aloneLine, restLine, lineOf};
+ghost use Rattle.console_lines.specs.Lines.{tablesLine, bufferLine, partLine, passedLine, sendLine, rawLine, slotLine, registerLine, usableLine, aloneLine, restLine, lineOf};
 
 // What a line asks for. A row is a place among the rows, counted from 0.
 pub enum Line {
@@ -25,22 +24,13 @@ pub enum Line {
 fn tables_line(r: &[u8]) -> Line
     ensures { λ a. ⌜ a ≡ tablesLine (now (r .entry)) ⌝ }
 {
-    if !are_tables(r) {
+    if !console_forms::are_tables(r) {
         return Line::Other;
     }
     Line::Tables {
         slots: decimals::decimal(console_words::word(r)) as usize,
         registers: decimals::decimal(console_words::rest(r)) as usize,
     }
-}
-
-fn are_tables(r: &[u8]) -> bool
-    ensures { λ a. ⌜ a ≡ areTables (now (r .entry)) ⌝ }
-{
-    if !decimals::is_number(1, 0, 9, console_words::word(r)) {
-        return false;
-    }
-    decimals::is_number(2, 0, 33, console_words::rest(r))
 }
 
 fn buffer_line(r: &[u8]) -> Line
@@ -94,35 +84,10 @@ fn raw_line(r: &[u8]) -> Line
     Line::Raw
 }
 
-// Whether the three words of digits are those of a slot row.
-fn is_slot_row(d: &[u8]) -> bool
-    ensures { λ a. ⌜ a ≡ isSlotRow (now (d .entry)) ⌝ }
-{
-    if !forms::in_form(Form::Hex(80), console_words::word(d)) {
-        return false;
-    }
-    if !forms::in_form(Form::Hex(32), console_words::word(console_words::rest(d))) {
-        return false;
-    }
-    forms::in_form(Form::Hex(32), console_words::rest(console_words::rest(d)))
-}
-
-fn is_slot(r: &[u8]) -> bool
-    ensures { λ a. ⌜ a ≡ isSlot (now (r .entry)) ⌝ }
-{
-    if !decimals::is_number(1, 1, 8, console_words::word(r)) {
-        return false;
-    }
-    if !decimals::is_number(3, 0, 255, console_words::word(console_words::rest(r))) {
-        return false;
-    }
-    is_slot_row(console_words::rest(console_words::rest(r)))
-}
-
 fn slot_line(r: &[u8]) -> Line
     ensures { λ a. ⌜ a ≡ slotLine (now (r .entry)) ⌝ }
 {
-    if !is_slot(r) {
+    if !console_forms::is_slot(r) {
         return Line::Other;
     }
     Line::Slot {
@@ -131,19 +96,10 @@ fn slot_line(r: &[u8]) -> Line
     }
 }
 
-fn is_register(r: &[u8]) -> bool
-    ensures { λ a. ⌜ a ≡ isRegister (now (r .entry)) ⌝ }
-{
-    if !decimals::is_number(2, 1, 32, console_words::word(r)) {
-        return false;
-    }
-    forms::in_form(Form::Hex(512), console_words::rest(r))
-}
-
 fn register_line(r: &[u8]) -> Line
     ensures { λ a. ⌜ a ≡ registerLine (now (r .entry)) ⌝ }
 {
-    if !is_register(r) {
+    if !console_forms::is_register(r) {
         return Line::Other;
     }
     Line::Register(decimals::decimal(console_words::word(r)) as usize - 1)
@@ -201,7 +157,7 @@ pub fn line_of(l: &[u8]) -> Line
     if l[0] == 35 {
         return Line::Nothing;
     }
-    let v = console_words::verb_of(console_words::word(l));
+    let v = console_verbs::verb_of(console_words::word(l));
     if console_words::has_rest(l) {
         return rest_line(v, console_words::rest(l));
     }

@@ -20,7 +20,7 @@ use Rattle.engine.specs.declared.Outcome.{Outcome}
 use Rattle.hex_octets.specs.Octets.{octetsOf}
 use Rattle.console_state.specs.State.{withTables}
 use Rattle.console_state.specs.declared.Console.{Console}
-use Rattle.console_prints.specs.Prints.{answerLine}
+use Rattle.console_outcomes.specs.Outcomes.{outcomeLine}
 use Rattle.console_requests.specs.Requests.{room, callBy, answeredBy, SaysAnswer}
 
 -- room
@@ -70,10 +70,10 @@ module _ (c : Console) (q r e : List ℕ) (n : ℕ) (z : 2048 ≡ length r) (h :
   pub answer-said : (o : Outcome) (m number : ℕ) (a b : List ℕ) (i : ℕ)
       → o ≡ answerOf (callIn (c .tables) (c .supplement) q (length (take n r))) .outcome
       → Responded (c .tables) (answerOf (callIn (c .tables) (c .supplement) q (length (take n r)))) (take n r) m e
-      → Wrote a 0 (answerLine number o (take m (e ++ drop n r))) b i
+      → Wrote a 0 (outcomeLine number o (take m (e ++ drop n r))) b i
       → SaysAnswer c number q a b i
   answer-said o m number a b i p (names, (perm, (l, s))) w =
-      let v : Wrote a 0 (answerLine number (answerOf (callIn (c .tables) (c .supplement) q (length (take n r))) .outcome) (answerOf (callIn (c .tables) (c .supplement) q (length (take n r))) .response names)) b i =
+      let v : Wrote a 0 (outcomeLine number (answerOf (callIn (c .tables) (c .supplement) q (length (take n r))) .outcome) (answerOf (callIn (c .tables) (c .supplement) q (length (take n r))) .response names)) b i =
       rw (← p, ← whole (answerOf (callIn (c .tables) (c .supplement) q (length (take n r))) .response names) (take n r) r n m l, ← s) w in
       (names, (perm, rw (← lent) v))
 

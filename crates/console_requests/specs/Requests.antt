@@ -11,7 +11,7 @@ use Rattle.engine.specs.Answers.{answerOf}
 use Rattle.engine.specs.Calls.{callIn, tablesAfter}
 use Rattle.console_state.specs.State.{withTables}
 use Rattle.console_state.specs.declared.Console.{Console}
-use Rattle.console_prints.specs.Prints.{answerLine}
+use Rattle.console_outcomes.specs.Outcomes.{outcomeLine}
 
 -- how many bytes of response buffer are lent; `buffer` sets at most 2,048
 unfoldable pub room : Console → ℕ
@@ -28,4 +28,4 @@ answeredBy c request = withTables (tablesAfter (c .tables) (answerOf (callBy c r
 -- the line of a request's answer is printed; SM?GL's list is in some sequence
 abbrev pub SaysAnswer : Console → ℕ → List ℕ → List ℕ → List ℕ → ℕ → Type 0
 SaysAnswer c number request before now n =
-    InSomeSequence (slotRows (c .tables)) (λ (names : List (List ℕ)). Wrote before 0 (answerLine number (answerOf (callBy c request) .outcome) (answerOf (callBy c request) .response names)) now n)
+    InSomeSequence (slotRows (c .tables)) (λ (names : List (List ℕ)). Wrote before 0 (outcomeLine number (answerOf (callBy c request) .outcome) (answerOf (callBy c request) .response names)) now n)

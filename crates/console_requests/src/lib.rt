@@ -43,7 +43,7 @@ fn hand_in(c: Console, number: u64, request: &[u8], out: &mut [u8]) -> Stepped
     let a = core::handle(c.tables, c.supplement, request, &mut response[..n]);
     let m = a.length;
     let o = a.outcome;
-    let length = console_prints::put_answer(out, number, o, &response[..m]);
+    let length = console_outcomes::put_outcome(out, number, o, &response[..m]);
     let console = console_state::with_tables(c, a.tables);
     Stepped { console, length }
 }

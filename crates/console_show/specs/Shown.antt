@@ -1,49 +1,15 @@
--- The rows for people: the line `show` (docs/CONSOLE.md). Of a row that is all zero nothing is shown.
+-- The rows for people: the line `show` (docs/CONSOLE.md).
 use Prim.Native.Nat.{ℕ, _+_}
-use mathlib.Core.Bool.{Bool, cond}
-use mathlib.Core.List.{List, [], _∷_, _++_}
-use lib.ListN.{getD}
-use Rattle.decimal_writer.specs.Digits.{decimalBytes, longBytes}
+use mathlib.Core.List.{List, _++_}
 use Rattle.rows.specs.Lists.{told}
-use Rattle.rows.specs.Slots.{isZeroSlot}
-use Rattle.rows.specs.Registers.{isVacant}
-use Rattle.rows.specs.declared.SlotRow.{SlotRow}
 use Rattle.rows.specs.declared.RegisterRow.{RegisterRow}
-use Rattle.rows.specs.declared.SlotState.the-variants.{Free, Pending, Loading, Idle}
 use Rattle.rows.specs.declared.Tables.{Tables}
 use Rattle.engine.specs.Usable.{isUsable}
-use Rattle.console_prints.specs.Prints.{lineBytes, stateName}
-use Rattle.console_text.specs.Texts.{shown}
+use Rattle.console_shown_rows.specs.OneRow.{slotShown, registerShown, countsShown}
 
--- the name of a state's number, or ?
-unfoldable pub stateShown : ℕ → List ℕ
-stateShown n = getD (stateName Free ∷ stateName Pending ∷ stateName Loading ∷ stateName Idle ∷ []) n (63 ∷ [])
-
--- usable, unusable
-abbrev pub usableShown : Bool → List ℕ
-usableShown b = cond b (117 ∷ 115 ∷ 97 ∷ 98 ∷ 108 ∷ 101 ∷ []) (117 ∷ 110 ∷ 117 ∷ 115 ∷ 97 ∷ 98 ∷ 108 ∷ 101 ∷ [])
-
--- slot K STATE NAME FINGERPRINT TVP; the place k counts from 0, K from 1
-unfoldable pub slotShown : ℕ → SlotRow → List ℕ
-slotShown k r =
-    cond (isZeroSlot r) []
-    (lineBytes ((115 ∷ 108 ∷ 111 ∷ 116 ∷ []) ∷ decimalBytes (k + 1) ∷ stateShown (r .state) ∷ shown (r .kmcid) ∷ shown (r .fingerprint) ∷ shown (r .tvp) ∷ []))
-
--- register K usable CARD, or register K unusable CARD
-unfoldable pub registerShown : Tables → ℕ → RegisterRow → List ℕ
-registerShown t k r =
-    cond (isVacant r) []
-    (lineBytes ((114 ∷ 101 ∷ 103 ∷ 105 ∷ 115 ∷ 116 ∷ 101 ∷ 114 ∷ []) ∷ decimalBytes (k + 1) ∷ usableShown (isUsable t (k + 1)) ∷ shown (r .card) ∷ []))
-
--- S slot rows, R register rows
-unfoldable pub countsShown : Tables → List ℕ
-countsShown t =
-    lineBytes
-    (longBytes (t .«slot_count»)
-    ∷ (115 ∷ 108 ∷ 111 ∷ 116 ∷ 32 ∷ 114 ∷ 111 ∷ 119 ∷ 115 ∷ 44 ∷ [])
-    ∷ longBytes (t .«register_count»)
-    ∷ (114 ∷ 101 ∷ 103 ∷ 105 ∷ 115 ∷ 116 ∷ 101 ∷ 114 ∷ 32 ∷ 114 ∷ 111 ∷ 119 ∷ 115 ∷ [])
-    ∷ [])
+-- a register row of the tables; the place k counts from 0, and registers are numbered from 1
+unfoldable pub registerIn : Tables → ℕ → RegisterRow → List ℕ
+registerIn t k r = registerShown (isUsable t (k + 1)) k r
 
 unfoldable pub shownRows : Tables → List ℕ
-shownRows t = countsShown t ++ (told slotShown 0 (t .slots) ++ told (registerShown t) 0 (t .registers))
+shownRows t = countsShown t ++ (told slotShown 0 (t .slots) ++ told (registerIn t) 0 (t .registers))

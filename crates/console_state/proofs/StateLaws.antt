@@ -11,7 +11,7 @@ use Rattle.rows.specs.declared.RegisterRow.{RegisterRow}
 use Rattle.rows.specs.declared.Supplement.{Supplement}
 use Rattle.rows.specs.declared.Tables.{Tables}
 use Rattle.console_words.specs.Words.{rest}
-use Rattle.console_words.specs.declared.Part.{Part}
+use Rattle.console_verbs.specs.declared.Part.{Part}
 use Rattle.console_lines.specs.declared.Line.{Line}
 use Rattle.console_lines.specs.declared.Line.the-variants as line
 use Rattle.console_lines.proofs.Line.{the-type}

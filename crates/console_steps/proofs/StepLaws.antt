@@ -19,7 +19,7 @@ use Rattle.console_lines.specs.declared.Line.the-variants as line
 use Rattle.console_lines.proofs.Line.{the-type}
 use Rattle.console_state.specs.State.{checked, setBy}
 use Rattle.console_state.specs.declared.Console.{Console}
-use Rattle.console_prints.specs.Prints.{usableLine}
+use Rattle.console_answers.specs.Answers.{usableLine}
 use Rattle.console_requests.specs.Requests.{answeredBy, SaysAnswer}
 use Rattle.console_steps.specs.Steps.{asked, said, handed, after, Says}
 

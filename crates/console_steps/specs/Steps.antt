@@ -12,7 +12,7 @@ use Rattle.console_lines.specs.declared.Line.{Line}
 use Rattle.console_lines.specs.declared.Line.the-variants as line
 use Rattle.console_state.specs.State.{checked, setBy}
 use Rattle.console_state.specs.declared.Console.{Console}
-use Rattle.console_prints.specs.Prints.{usableLine, otherLine}
+use Rattle.console_answers.specs.Answers.{usableLine, otherLine}
 use Rattle.console_requests.specs.Requests.{answeredBy, SaysAnswer}
 use Rattle.console_rows.specs.Rows.{rowLines}
 use Rattle.console_show.specs.Shown.{shownRows}

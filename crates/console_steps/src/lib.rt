@@ -19,10 +19,10 @@ fn say(c: Console, number: u64, line: Line, out: &mut [u8]) -> usize
         Line::Rows => console_rows::put_rows(out, c.tables),
         Line::Usable(k) => {
             let yes = usable::is_usable(c.tables, k);
-            console_prints::put_usable(out, number, yes)
+            console_answers::put_usable(out, number, yes)
         }
         Line::Show => console_show::put_show(out, c.tables),
-        Line::Other => console_prints::put_other(out, number),
+        Line::Other => console_answers::put_other(out, number),
         _ => 0,
     }
 }

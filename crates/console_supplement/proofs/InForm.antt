@@ -17,8 +17,8 @@ use Rattle.identities.specs.Identities.{identityInForm}
 use Rattle.rows.specs.Lists.{padded}
 use Rattle.rows.specs.Supplements.{isIdentityRight, isLoadRequestRight, isWellFormed}
 use Rattle.rows.specs.declared.Supplement.{Supplement}
-use Rattle.console_words.specs.declared.Part.{Part}
-use Rattle.console_words.specs.declared.Part.the-variants.{Clock, Identity, LoadRequest, Tag, Check}
+use Rattle.console_verbs.specs.declared.Part.{Part}
+use Rattle.console_verbs.specs.declared.Part.the-variants.{Clock, Identity, LoadRequest, Tag, Check}
 use Rattle.console_supplement.specs.Parts.{fitted, withPart, blank, startSupplement}
 
 pub start-in-form : isWellFormed startSupplement ≡ true

@@ -9,8 +9,8 @@ use Rattle.octets.specs.Wrote.{Wrote}
 use Rattle.octets.proofs.Writes.{from-start}
 use Rattle.rows.specs.Lists.{padded}
 use Rattle.rows.specs.declared.Supplement.{Supplement}
-use Rattle.console_words.specs.declared.Part.{Part}
-use Rattle.console_words.specs.declared.Part.the-variants.{Clock, Identity, LoadRequest, Tag, Check}
+use Rattle.console_verbs.specs.declared.Part.{Part}
+use Rattle.console_verbs.specs.declared.Part.the-variants.{Clock, Identity, LoadRequest, Tag, Check}
 use Rattle.console_supplement.specs.Parts.{fitted, withClock, withIdentity, withRequest, withTag, withCheck, withPart, blank, startClock, startIdentity, startRequest, startSupplement}
 
 -- sixteen, forty_eight, six: n is the width

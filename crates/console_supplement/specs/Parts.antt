@@ -6,8 +6,8 @@ use lib.Dec.{eqb}
 use lib.ListN.{length, replicate}
 use Rattle.rows.specs.Lists.{padded}
 use Rattle.rows.specs.declared.Supplement.{Supplement}
-use Rattle.console_words.specs.declared.Part.{Part}
-use Rattle.console_words.specs.declared.Part.the-variants.{Clock, Identity, LoadRequest, Tag, Check}
+use Rattle.console_verbs.specs.declared.Part.{Part}
+use Rattle.console_verbs.specs.declared.Part.the-variants.{Clock, Identity, LoadRequest, Tag, Check}
 
 -- bytes that fill their place; where they do not, zeros, which are in no form
 unfoldable pub fitted : ℕ → List ℕ → List ℕ

@@ -1,5 +1,5 @@
 // The supplement that the console hands in (docs/CONSOLE.md): each part set by a line, and all of it at the start.
-use console_words::Part;
+use console_verbs::Part;
 use rows::Supplement;
 ghost use mathlib.Core.Path.{_≡_};
 ghost use Rattle.rows.specs.Lists.{padded};

@@ -24,7 +24,7 @@ use Rattle.hex_octets.specs.Octets.{digitsOf, octetsOf}
 use Rattle.hex_octets.proofs.OctetLaws.{digits-length}
 use Rattle.hex_octets.proofs.RoundTrip.{octets-back, digits-hexadecimal}
 use Rattle.console_words.specs.Words.{word, rest}
-use Rattle.console_lines.specs.Lines.{isSlotRow}
+use Rattle.console_forms.specs.LineForms.{isSlotRow}
 use Rattle.console_tables.specs.RowLines.{slotOf, registerOf}
 
 -- n bytes

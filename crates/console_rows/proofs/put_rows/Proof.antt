@@ -1,5 +1,5 @@
 -- `console_rows::put_rows` meets its contract: the slots, then the registers.
-use Rattle.console_rows.proofs.RowLaws.{rows-printed}
+use Rattle.console_rows.proofs.RowsLaws.{rows-printed}
 use borrow.Author.Needs.{needs}
 use Rattle.console_rows.proofs.put_rows.Statement.{statement}
 use Rattle.console_rows.proofs.put_rows.Tie as tie

@@ -1,5 +1,5 @@
 -- `console_show::put_show` meets its contract: the counts, the slots, the registers.
-use Rattle.console_show.proofs.ShowLaws.{all-shown}
+use Rattle.console_show.proofs.ShowsLaws.{all-shown}
 use borrow.Author.Needs.{needs}
 use Rattle.console_show.proofs.put_show.Statement.{statement}
 use Rattle.console_show.proofs.put_show.Tie as tie

@@ -6,7 +6,7 @@ use lib.ListN.{length, drop}
 use Rattle.rows.specs.Lists.{told}
 use Rattle.rows.proofs.LoopLaws.{list-cons, places-end}
 use Rattle.rows.proofs.WriteLoops.{Remains, told-turn, told-ended}
-use Rattle.console_show.specs.Shown.{slotShown}
+use Rattle.console_shown_rows.specs.OneRow.{slotShown}
 use Rattle.console_show.proofs.put_slots.Statement.{statement}
 use Rattle.console_show.proofs.put_slots.Tie as tie
 

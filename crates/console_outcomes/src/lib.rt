@@ -1,0 +1,28 @@
+// The line that answers a request (docs/CONSOLE.md), by its outcome.
+use engine::Outcome;
+ghost use mathlib.Core.Path.{_≡_};
+ghost use Prim.Native.Nat.{_+_, _≤_};
+ghost use lib.ListN.{length};
+ghost use Rattle.octets.specs.Wrote.{Wrote};
+ghost use Rattle.console_outcomes.specs.Outcomes.{leftNumber, outcomeLine};
+
+// The number of the slot state that an outcome carries, or 255.
+fn left_number(o: Outcome) -> u8
+    ensures { λ n. ⌜ n ≡ leftNumber o ⌝ }
+{
+    match o {
+        Outcome::Accepted(s) => slot_tests::state_number(s),
+        Outcome::Done => 255,
+        Outcome::Refused(_) => 255,
+    }
+}
+
+// The line that answers a request.
+pub fn put_outcome(dst: &mut [u8], number: u64, o: Outcome, response: &[u8]) -> usize
+    requires { ⌜ length (now response) + 42 ≤ length (now dst) ⌝ }
+    ensures { λ r. ⌜ Wrote (now (dst .entry)) 0 (outcomeLine number o (now (response .entry))) (now (dst .exit)) r ⌝ }
+    ensures fits { λ r. ⌜ r ≤ length (now (dst .entry)) ⌝ }
+{
+    let outcome = refusal_numbers::outcome_number(o);
+    console_answers::put_answer(dst, number, outcome, left_number(o), response)
+}

@@ -1,0 +1,23 @@
+-- One row in the form of the line that sets it (docs/CONSOLE.md); of a row that is all zero nothing.
+use Prim.Native.Nat.{ℕ, _+_}
+use mathlib.Core.Bool.{cond}
+use mathlib.Core.List.{List, [], _∷_}
+use Rattle.decimal_writer.specs.Digits.{decimalBytes}
+use Rattle.hex_octets.specs.Octets.{digitsOf}
+use Rattle.rows.specs.Slots.{isZeroSlot}
+use Rattle.rows.specs.Registers.{isVacant}
+use Rattle.rows.specs.declared.SlotRow.{SlotRow}
+use Rattle.rows.specs.declared.RegisterRow.{RegisterRow}
+use Rattle.console_prints.specs.Prints.{lineBytes}
+
+-- slot K S NAME FINGERPRINT TVP; the place k counts from 0, K from 1
+unfoldable pub slotLine : ℕ → SlotRow → List ℕ
+slotLine k r =
+    cond (isZeroSlot r) []
+    (lineBytes ((115 ∷ 108 ∷ 111 ∷ 116 ∷ []) ∷ decimalBytes (k + 1) ∷ decimalBytes (r .state) ∷ digitsOf (r .kmcid) ∷ digitsOf (r .fingerprint) ∷ digitsOf (r .tvp) ∷ []))
+
+-- register K CARD
+unfoldable pub registerLine : ℕ → RegisterRow → List ℕ
+registerLine k r =
+    cond (isVacant r) []
+    (lineBytes ((114 ∷ 101 ∷ 103 ∷ 105 ∷ 115 ∷ 116 ∷ 101 ∷ 114 ∷ []) ∷ decimalBytes (k + 1) ∷ digitsOf (r .card) ∷ []))

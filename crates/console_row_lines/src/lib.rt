@@ -1,0 +1,61 @@
+// One row as the line `rows` of the console prints it (docs/CONSOLE.md): in the form of the line that sets it.
+use rows::RegisterRow;
+use rows::SlotRow;
+ghost use mathlib.Core.Path.{_≡_};
+ghost use mathlib.Core.List.{[], _∷_, _++_};
+ghost use Prim.Native.Nat.{_+_, _≤_, _<_};
+ghost use lib.ListN.{length};
+ghost use Rattle.octets.specs.Wrote.{Wrote};
+ghost use Rattle.hex_octets.specs.Octets.{digitsOf};
+ghost use Rattle.console_prints.specs.Prints.{lineBytes};
+ghost use Rattle.console_row_lines.specs.OneRow.{slotLine, registerLine};
+
+// Writes the digits of s and the byte that stands after them.
+fn put_digits(dst: &mut [u8], at: usize, s: &[u8], after: u8) -> usize
+    requires { ⌜ at + (length (now s) + length (now s)) + 1 ≤ length (now dst) ⌝ }
+    ensures { λ r. ⌜ Wrote (now (dst .entry)) at (digitsOf (now (s .entry)) ++ (after ∷ [])) (now (dst .exit)) r ⌝ }
+    ensures short { λ r. ⌜ r ≡ at + (length (now (s .entry)) + length (now (s .entry))) + 1 ⌝ }
+{
+    let end = hex_octets::put_digits(dst, at, s);
+    octets::put_byte(dst, end, after)
+}
+
+// The last three words of a slot row's line.
+fn put_fields(dst: &mut [u8], at: usize, row: SlotRow) -> usize
+    requires { ⌜ at + 147 ≤ length (now dst) ⌝ }
+    ensures { λ r. ⌜ Wrote (now (dst .entry)) at (lineBytes (digitsOf (row .kmcid) ∷ digitsOf (row .fingerprint) ∷ digitsOf (row .tvp) ∷ [])) (now (dst .exit)) r ⌝ }
+    ensures short { λ r. ⌜ r ≤ at + 147 ⌝ }
+{
+    let a = put_digits(dst, at, &row.kmcid, 32);
+    let b = put_digits(dst, a, &row.fingerprint, 32);
+    put_digits(dst, b, &row.tvp, 10)
+}
+
+// One slot row in the form of a line, of a row that is all zero nothing; k is its place.
+pub fn put_slot(dst: &mut [u8], at: usize, k: usize, row: SlotRow) -> usize
+    requires { ⌜ (k < 8) × (at + 180 ≤ length (now dst)) ⌝ }
+    ensures { λ r. ⌜ Wrote (now (dst .entry)) at (slotLine k row) (now (dst .exit)) r ⌝ }
+    ensures short { λ r. ⌜ r ≤ at + 180 ⌝ }
+{
+    if slot_forms::is_zero_slot(row) {
+        return at;
+    }
+    let a = console_prints::put_word(dst, at, b"slot");
+    let b = console_prints::put_number(dst, a, k as u32 + 1);
+    let c = console_prints::put_number(dst, b, row.state as u32);
+    put_fields(dst, c, row)
+}
+
+// One register row in the form of a line, of a free one nothing; k is its place.
+pub fn put_register(dst: &mut [u8], at: usize, k: usize, row: RegisterRow) -> usize
+    requires { ⌜ (k < 32) × (at + 533 ≤ length (now dst)) ⌝ }
+    ensures { λ r. ⌜ Wrote (now (dst .entry)) at (registerLine k row) (now (dst .exit)) r ⌝ }
+    ensures short { λ r. ⌜ r ≤ at + 533 ⌝ }
+{
+    if register_rows::is_vacant(row) {
+        return at;
+    }
+    let a = console_prints::put_word(dst, at, b"register");
+    let b = console_prints::put_number(dst, a, k as u32 + 1);
+    put_digits(dst, b, &row.card, 10)
+}

@@ -1,0 +1,54 @@
+-- A row is shown as a line of its words, or not at all.
+use mathlib.Core.Path.{_≡_}
+use mathlib.Core.Bool.{Bool, true, false}
+use mathlib.Core.List.{List, [], _∷_, _++_}
+use Prim.Native.Nat.{ℕ, _+_}
+use Rattle.octets.specs.Wrote.{Wrote}
+use Rattle.octets.proofs.Writes.{none}
+use Rattle.decimal_writer.specs.Digits.{decimalBytes, longBytes}
+use Rattle.rows.specs.Slots.{isZeroSlot}
+use Rattle.rows.specs.Registers.{isVacant}
+use Rattle.rows.specs.declared.SlotRow.{SlotRow}
+use Rattle.rows.specs.declared.RegisterRow.{RegisterRow}
+use Rattle.rows.specs.declared.Tables.{Tables}
+use Rattle.console_prints.specs.Prints.{lineBytes}
+use Rattle.console_prints.proofs.PrintLaws.{last, rest, word, line-written}
+use Rattle.console_states.specs.States.{stateName}
+use Rattle.console_text.specs.Texts.{shown}
+use Rattle.console_shown_rows.specs.OneRow.{usableShown, slotShown, registerShown, countsShown}
+
+-- put_usable
+module _ {d e : List ℕ} {a r : ℕ} (y : Bool) where
+  pub yes-shown : y ≡ true → Wrote d a (117 ∷ 115 ∷ 97 ∷ 98 ∷ 108 ∷ 101 ∷ 32 ∷ []) e r → Wrote d a (usableShown y ++ (32 ∷ [])) e r
+  yes-shown p w = rw p w
+
+  pub no-shown : y ≡ false → Wrote d a (117 ∷ 110 ∷ 117 ∷ 115 ∷ 97 ∷ 98 ∷ 108 ∷ 101 ∷ 32 ∷ []) e r → Wrote d a (usableShown y ++ (32 ∷ [])) e r
+  no-shown p w = rw p w
+
+-- put_slot
+module _ {d : List ℕ} {at : ℕ} (k : ℕ) (row : SlotRow) (t : Bool) (p : t ≡ isZeroSlot row) where
+  pub no-slot : t ≡ true → Wrote d at (slotShown k row) d at
+  unfolding slotShown
+  no-slot o = rw (← p, o) (none d at)
+
+  pub slot-shown : {e f g h : List ℕ} {a b c l : ℕ} → t ≡ false → Wrote d at (115 ∷ 108 ∷ 111 ∷ 116 ∷ 32 ∷ []) e a → Wrote e a (decimalBytes (k + 1) ++ (32 ∷ [])) f b
+      → Wrote f b (stateName (63 ∷ []) (row .state) ++ (32 ∷ [])) g c → Wrote g c (lineBytes (shown (row .kmcid) ∷ shown (row .fingerprint) ∷ shown (row .tvp) ∷ [])) h l → Wrote d at (slotShown k row) h l
+  unfolding slotShown
+  slot-shown o u v w x = rw (← p, o) (line-written (word u (word v (word w (rest x)))))
+
+-- put_register
+module _ {d : List ℕ} {at : ℕ} (y : Bool) (k : ℕ) (row : RegisterRow) (z : Bool) (p : z ≡ isVacant row) where
+  pub no-register : z ≡ true → Wrote d at (registerShown y k row) d at
+  unfolding registerShown
+  no-register o = rw (← p, o) (none d at)
+
+  pub register-shown : {e f g h : List ℕ} {a b c l : ℕ} → z ≡ false → Wrote d at (114 ∷ 101 ∷ 103 ∷ 105 ∷ 115 ∷ 116 ∷ 101 ∷ 114 ∷ 32 ∷ []) e a → Wrote e a (decimalBytes (k + 1) ++ (32 ∷ [])) f b
+      → Wrote f b (usableShown y ++ (32 ∷ [])) g c → Wrote g c (shown (row .card) ++ (10 ∷ [])) h l → Wrote d at (registerShown y k row) h l
+  unfolding registerShown
+  register-shown o u v w x = rw (← p, o) (line-written (word u (word v (word w (last x)))))
+
+-- put_counts
+pub counts-shown : {d e f g h : List ℕ} {a b c r : ℕ} (t : Tables) → Wrote d 0 (longBytes (t .«slot_count») ++ (32 ∷ [])) e a → Wrote e a (115 ∷ 108 ∷ 111 ∷ 116 ∷ 32 ∷ 114 ∷ 111 ∷ 119 ∷ 115 ∷ 44 ∷ 32 ∷ []) f b
+    → Wrote f b (longBytes (t .«register_count») ++ (32 ∷ [])) g c → Wrote g c (114 ∷ 101 ∷ 103 ∷ 105 ∷ 115 ∷ 116 ∷ 101 ∷ 114 ∷ 32 ∷ 114 ∷ 111 ∷ 119 ∷ 115 ∷ 10 ∷ []) h r → Wrote d 0 (countsShown t) h r
+unfolding countsShown
+counts-shown t u v w x = line-written (word u (word v (word w (last x))))

@@ -1,0 +1,21 @@
+-- `console_shown_rows::put_register` meets its contract, a law a return.
+use Rattle.console_shown_rows.proofs.ShowLaws.{no-register, register-shown}
+use borrow.Author.Needs.{needs}
+use Rattle.console_shown_rows.proofs.put_register.Statement.{statement}
+use Rattle.console_shown_rows.proofs.put_register.Tie as tie
+
+pub put-register-spec : {M : Type 1} → statement M
+put-register-spec =
+    tie.close
+    (tie.spec
+    (λ c κs. search needs)
+    (λ c. (search no-register, search needs))
+    (λ c. search needs)
+    (λ c κs. search needs)
+    (λ c. search needs)
+    (λ c. search needs)
+    (λ c κs. search needs)
+    (λ c κs. search needs)
+    (λ c κs. search needs)
+    (λ c. search needs)
+    (λ c. (search register-shown, search needs)))
