@@ -1,36 +1,54 @@
 -- From what the core answers over the joined tables to what is ensured of it in numbers and in two tables.
-use mathlib.Core.Path.{_≡_, sym, ap, _∙_}
+use mathlib.Core.Path.{_≡_, sym, ap, subst, _∙_}
 use mathlib.Core.Bool.{Bool, true, false}
-use mathlib.Core.List.{List}
+use mathlib.Core.List.{List, map}
 use Prim.Native.Nat.{ℕ}
+use Rattle.rows.specs.declared.SlotRow.{SlotRow}
+use Rattle.rows.specs.declared.RegisterRow.{RegisterRow}
 use Rattle.rows.specs.declared.Supplement.{Supplement}
 use Rattle.rows.specs.declared.Tables.{Tables}
+use Rattle.lent_rows.specs.declared.SlotTable.{SlotTable}
+use Rattle.lent_rows.specs.declared.RegisterTable.{RegisterTable}
+use Rattle.row_index.specs.Lent.{cardIn, rowsWith, tablesWith}
+use Rattle.row_index.proofs.LentLaws.{rows-again}
 use Rattle.engine.specs.Answers.{answerOf}
 use Rattle.engine.specs.Calls.{callIn, Responded, tablesAfter}
 use Rattle.engine.specs.Outcomes.{outcomeNumber}
 use Rattle.engine.specs.Usable.{isUsable}
 use Rattle.engine.specs.declared.Outcome.{Outcome}
 use Rattle.answer_numbers.specs.Numbers.{stateByte, yesByte}
-use Rattle.answer_numbers.specs.Joined.{slotsIn, registersIn}
+use Rattle.answer_numbers.specs.Joined.{joined, slotsIn, registersIn}
 
--- answer: t are the tables that were joined, u what they are
-module _ (t u : Tables) (e : t ≡ u) (x : Supplement) (q : List ℕ) (room : ℕ) where
-  module _ (o : Outcome) (p : o ≡ answerOf (callIn t x q room) .outcome) (n : ℕ) where
-    pub number-of : n ≡ outcomeNumber o → n ≡ outcomeNumber (answerOf (callIn u x q room) .outcome)
-    number-of h = h ∙ ap outcomeNumber p ∙ ap (λ (v : Tables). outcomeNumber (answerOf (callIn v x q room) .outcome)) e
+-- answer: the tables with the cards of the register rows are the joined ones
+module _ (s : SlotTable) (r : RegisterTable) (cards : List (List ℕ)) (w : cards ≡ map cardIn (r .rows)) (x : Supplement) (q : List ℕ) (room : ℕ) where
+  abbrev lent : Tables
+  lent = tablesWith (s .rows) (s .count) (rowsWith cards) (r .count)
 
-    pub byte-of : n ≡ stateByte o → n ≡ stateByte (answerOf (callIn u x q room) .outcome)
-    byte-of h = h ∙ ap stateByte p ∙ ap (λ (v : Tables). stateByte (answerOf (callIn v x q room) .outcome)) e
+  lent-joined : lent ≡ joined s r
+  lent-joined =
+      let e : rowsWith cards ≡ r .rows = ap rowsWith w ∙ rows-again (r .rows) in
+      ap (λ (l : List RegisterRow). tablesWith (s .rows) (s .count) l (r .count)) e
 
-  pub responded-of : (a b : List ℕ) (n : ℕ) → Responded t (answerOf (callIn t x q room)) a n b → Responded u (answerOf (callIn u x q room)) a n b
-  responded-of a b n h = rw (← e) h
+  module _ (o : Outcome) (p : o ≡ answerOf (callIn lent x q room) .outcome) (n : ℕ) where
+    pub number-of : n ≡ outcomeNumber o → n ≡ outcomeNumber (answerOf (callIn (joined s r) x q room) .outcome)
+    number-of h = h ∙ ap outcomeNumber p ∙ ap (λ (v : Tables). outcomeNumber (answerOf (callIn v x q room) .outcome)) lent-joined
 
-  module _ (v : Tables) (p : v ≡ tablesAfter t (answerOf (callIn t x q room))) where
-    pub slots-of : slotsIn v ≡ slotsIn (tablesAfter u (answerOf (callIn u x q room)))
-    slots-of = ap slotsIn p ∙ ap (λ (w : Tables). slotsIn (tablesAfter w (answerOf (callIn w x q room)))) e
+    pub byte-of : n ≡ stateByte o → n ≡ stateByte (answerOf (callIn (joined s r) x q room) .outcome)
+    byte-of h = h ∙ ap stateByte p ∙ ap (λ (v : Tables). stateByte (answerOf (callIn v x q room) .outcome)) lent-joined
 
-    pub registers-of : registersIn v ≡ registersIn (tablesAfter u (answerOf (callIn u x q room)))
-    registers-of = ap registersIn p ∙ ap (λ (w : Tables). registersIn (tablesAfter w (answerOf (callIn w x q room)))) e
+  pub responded-of : (a b : List ℕ) (n : ℕ) → Responded lent (answerOf (callIn lent x q room)) a n b → Responded (joined s r) (answerOf (callIn (joined s r) x q room)) a n b
+  responded-of a b n h = subst (λ (v : Tables). Responded v (answerOf (callIn v x q room)) a n b) lent-joined h
+
+  -- the rows after it
+  module _ (a : List SlotRow) (c : List (List ℕ)) (p : tablesWith a (s .count) (rowsWith c) (r .count) ≡ tablesAfter lent (answerOf (callIn lent x q room))) where
+    after-of : tablesWith a (s .count) (rowsWith c) (r .count) ≡ tablesAfter (joined s r) (answerOf (callIn (joined s r) x q room))
+    after-of = p ∙ ap (λ (v : Tables). tablesAfter v (answerOf (callIn v x q room))) lent-joined
+
+    pub slots-of : record { rows = a; count = s .count } ≡ slotsIn (tablesAfter (joined s r) (answerOf (callIn (joined s r) x q room)))
+    slots-of = ap slotsIn after-of
+
+    pub registers-of : (l : List RegisterRow) → l ≡ rowsWith c → record { rows = l; count = r .count } ≡ registersIn (tablesAfter (joined s r) (answerOf (callIn (joined s r) x q room)))
+    registers-of l y = rw y (ap registersIn after-of)
 
 -- usable: b is what was answered of the key
 module _ (t u : Tables) (e : t ≡ u) (n : ℕ) (b : Bool) (p : b ≡ isUsable t n) where

@@ -53,7 +53,7 @@ fn join(s: SlotTable, r: RegisterTable) -> Tables
     }
 }
 
-// Handles a request over tables by value.
+// Handles a request over tables by value; the cards are lent to the core from here, so that the rows are copied once in and once out.
 pub fn answer(
     s: SlotTable,
     r: RegisterTable,
@@ -67,23 +67,27 @@ pub fn answer(
     ensures slots { λ a. ⌜ a .slots ≡ slotsIn (tablesAfter (joined s r) (answerOf (callIn (joined s r) x (now (request .entry)) (length (now (response .entry)))))) ⌝ }
     ensures registers { λ a. ⌜ a .registers ≡ registersIn (tablesAfter (joined s r) (answerOf (callIn (joined s r) x (now (request .entry)) (length (now (response .entry)))))) ⌝ }
 {
-    let a = core::handle(join(s, r), x, request, response);
+    let slots = s.rows;
+    let registers = r.rows;
+    let n = s.count;
+    let m = r.count;
+    let mut cards = register_tables::cards_of(registers);
+    let a = core::handle_cards(slots, n, &mut cards, m, x, request, response);
     let o = a.outcome;
-    let t = a.tables;
-    let slots = t.slots;
-    let registers = t.registers;
     let reply = Reply {
         outcome: refusal_numbers::outcome_number(o),
         state: state_byte(o),
         length: a.length,
     };
+    let slots_after = a.slots;
+    let registers_after = register_tables::rows_of(cards);
     let slot_table = SlotTable {
-        rows: slots,
-        count: t.slot_count,
+        rows: slots_after,
+        count: n,
     };
     let register_table = RegisterTable {
-        rows: registers,
-        count: t.register_count,
+        rows: registers_after,
+        count: m,
     };
     Answered {
         reply,

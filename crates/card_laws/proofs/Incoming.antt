@@ -10,7 +10,7 @@ use lib.ListN.{length, take, drop}
 use borrow.Author.Tests.{eq-eqb, eqb-true}
 use Rattle.octets.specs.Strings.{run, isNot}
 use Rattle.pieces.specs.Pieces.{pieces, isEnded}
-use Rattle.octets.proofs.Flags.{nope, and-left, and-right, no, holds}
+use Rattle.octets.proofs.Flags.{nope, and-left, and-right, yes, no, holds}
 use Rattle.text.specs.Classes.{areAll}
 use Rattle.text.specs.declared.Class.the-variants.{Text}
 use Rattle.decimals.specs.Decimals.{isNumber, isUnpadded}
@@ -140,6 +140,11 @@ module _ (s : List ℕ) (h : isIncoming s ≡ true) where
     pub required-own : presence a ≡ Required → valueOf (name a) s ≡ some (valueOr (name a) s defaultCard)
     unfolding valueOr
     required-own q = required-there q (valueOf (name a) s) refl
+
+    -- and in form
+    pub required-in-form : presence a ≡ Required → inForm (form a) (orElse (valueOf (name a) s) []) ≡ true
+    unfolding valueOr
+    required-in-form q = rw (required-own q) (yes (inForm (form a) (valueOr (name a) s defaultCard)) (required-value q (valueOf (name a) s) refl))
 
   -- clu, kcv, ksl and vnd are the engine's values
   module _ (clu kcv ksl vnd : List ℕ) where

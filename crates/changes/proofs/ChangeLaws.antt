@@ -1,45 +1,47 @@
 -- Each case of a decision, with what the code knows where it answers as premises.
-use mathlib.Core.Path.{_≡_, refl, ap}
+use mathlib.Core.Path.{_≡_, refl, sym}
 use mathlib.Core.Bool.{true}
 use mathlib.Core.List.{List, [], _∷_}
-use Prim.Native.Nat.{ℕ, _*_, _^_, _≤_, _<_}
+use Prim.Native.Nat.{ℕ, _+_, _*_, _^_, _≤_, _<_}
 use native.Mathlib.Omega.{arith}
 use types.Run.{OneOf, miss}
 use denote.Enum.Declared.{tagOf}
-use lib.ListN.{length, getD, set}
+use lib.ListN.{length, getD, set, take, replicate}
+use lib.Seq.{length-take-le, take-at}
 use Rattle.fields.specs.Values.{Value}
 use Rattle.stored_cards.specs.Stored.{inRow}
 use Rattle.commands.specs.declared.Command.the-variants.{KL, KF}
 use Rattle.rows.specs.Lists.{mapped}
 use Rattle.rows.specs.Slots.{freeSlot, movedSlot, resetSlot}
 use Rattle.rows.specs.Registers.{freeRegister, filledRegister, withoutSlot}
+use Rattle.card_writer.specs.declared.Stored.{Stored}
 use Rattle.rows.specs.declared.SlotRow.{SlotRow}
 use Rattle.rows.specs.declared.RegisterRow.{RegisterRow}
 use Rattle.rows.specs.declared.Supplement.{Supplement}
-use Rattle.rows.specs.declared.Tables.{Tables}
 use Rattle.rows.specs.declared.SlotState.the-variants.{Loading, Idle}
+use Rattle.rows.proofs.ListLaws.{map-set}
 use Rattle.rows.proofs.PlaceCounts.{getD-any}
 use Rattle.engine.specs.Requests.{areFieldsOf, firstText}
 use Rattle.engine.specs.declared.Decision.{Decision}
 use Rattle.engine.specs.declared.Decision.the-variants.{Refuse, Reset, Pend, Open, Load, Finish, Delete, Clear, Show, Enumerate, Query}
 use Rattle.engine.proofs.Decision.{the-type}
 use Rattle.request_parts.specs.Parts.{pendingRow, cardOf}
-use Rattle.changes.specs.Changes.{tablesFor, CanChange}
+use Rattle.row_index.specs.Found.{AreOwnedBy}
+use Rattle.row_index.specs.Lent.{rowWith, rowsWith}
+use Rattle.register_tables.specs.Freed.{freed}
+use Rattle.register_tables.proofs.FreedLaws.{freed-rows}
+use Rattle.changes.specs.Changes.{slotsAfter, registersAfter, CanChangeSlots, CanChangeRegisters, HasStored}
 
--- loaded_row
-pub row-filled : (card : List ℕ) (c : List ℕ) → c ≡ inRow card → record { card = c } ≡ filledRegister card
-unfolding filledRegister
-row-filled card c e = ap (λ (z : List ℕ). record { card = z }) e
-
--- the fields of a slot row and of a register row take 73 and 256 bytes
+-- a slot row takes 73 bytes, a card 256
 slot-fits : (k : ℕ) → k < 8 → k * 73 < 2 ^ 64
 slot-fits k h = omega arith
 
 register-fits : (k : ℕ) → k < 32 → k * 256 < 2 ^ 64
 register-fits k h = omega arith
 
-module _ (d : Decision) (t : Tables) (x : Supplement) (vs : List Value) (can : CanChange d t x vs) where
-  pub reset-can : d ≡ Reset → t .«slot_count» ≤ 8
+-- change_slots
+module _ (d : Decision) (n : ℕ) (vs : List Value) (can : CanChangeSlots d n vs) where
+  pub reset-can : d ≡ Reset → n ≤ 8
   reset-can e = rw e at can
 
   module _ (k : ℕ) where
@@ -67,78 +69,127 @@ module _ (d : Decision) (t : Tables) (x : Supplement) (vs : List Value) (can : C
       pub finish-fits : k * 73 < 2 ^ 64
       finish-fits = slot-fits k finish-can
 
-    module _ (e : d ≡ Load k) where
-      pub load-can : k < 32
-      load-can = (rw e at can) .0
-
-      pub load-fits : k * 256 < 2 ^ 64
-      load-fits = register-fits k load-can
-
-      pub load-fields : areFieldsOf KL vs ≡ true
-      load-fields = (rw e at can) .1 .0
-
-      pub load-length : length (cardOf x vs) ≤ 256
-      load-length = (rw e at can) .1 .1
-
     module _ (e : d ≡ Delete k) where
       pub delete-can : k < 8
-      delete-can = (rw e at can) .0
+      delete-can = rw e at can
 
       pub delete-fits : k * 73 < 2 ^ 64
       delete-fits = slot-fits k delete-can
 
-      pub delete-count : t .«register_count» ≤ 32
-      delete-count = (rw e at can) .1 .0
+-- the decisions that change no slot, and those that change no register
+abbrev slotless : List ℕ
+slotless = 0 ∷ 4 ∷ 7 ∷ 8 ∷ 9 ∷ 10 ∷ []
 
-      pub delete-fields : areFieldsOf KF vs ≡ true
-      delete-fields = (rw e at can) .1 .1
+abbrev registerless : List ℕ
+registerless = 0 ∷ 1 ∷ 2 ∷ 3 ∷ 5 ∷ 8 ∷ 9 ∷ 10 ∷ []
 
-    module _ (e : d ≡ Clear k) where
-      pub clear-can : k < 32
-      clear-can = rw e at can
+pub slots-kept : (d : Decision) (n : ℕ) (l : List SlotRow) (x : Supplement) (vs : List Value) → OneOf slotless (tagOf the-type d) → l ≡ slotsAfter d n l x vs
+slots-kept (Refuse r) n l x vs o = refl
+slots-kept Reset n l x vs o = absurd (miss slotless 1 tt o)
+slots-kept (Pend k) n l x vs o = absurd (miss slotless 2 tt o)
+slots-kept (Open k) n l x vs o = absurd (miss slotless 3 tt o)
+slots-kept (Load k) n l x vs o = refl
+slots-kept (Finish k) n l x vs o = absurd (miss slotless 5 tt o)
+slots-kept (Delete k) n l x vs o = absurd (miss slotless 6 tt o)
+slots-kept (Clear k) n l x vs o = refl
+slots-kept (Show k) n l x vs o = refl
+slots-kept Enumerate n l x vs o = refl
+slots-kept (Query k) n l x vs o = refl
 
-      pub clear-fits : k * 256 < 2 ^ 64
-      clear-fits = register-fits k clear-can
+pub registers-kept : (d : Decision) (m : ℕ) (l : List RegisterRow) (x : Supplement) (vs : List Value) → OneOf registerless (tagOf the-type d) → l ≡ registersAfter d m l x vs
+registers-kept (Refuse r) m l x vs o = refl
+registers-kept Reset m l x vs o = refl
+registers-kept (Pend k) m l x vs o = refl
+registers-kept (Open k) m l x vs o = refl
+registers-kept (Load k) m l x vs o = absurd (miss registerless 4 tt o)
+registers-kept (Finish k) m l x vs o = refl
+registers-kept (Delete k) m l x vs o = absurd (miss registerless 6 tt o)
+registers-kept (Clear k) m l x vs o = absurd (miss registerless 7 tt o)
+registers-kept (Show k) m l x vs o = refl
+registers-kept Enumerate m l x vs o = refl
+registers-kept (Query k) m l x vs o = refl
 
--- tables with other rows
-abbrev tables : Tables → List SlotRow → List RegisterRow → Tables
-tables t slots registers = record { slots = slots; registers = registers; «slot_count» = t .«slot_count»; «register_count» = t .«register_count» }
+module _ (d : Decision) (n : ℕ) (l : List SlotRow) (x : Supplement) (vs : List Value) where
+  pub reset-made : d ≡ Reset → (u : List SlotRow) → u ≡ mapped n resetSlot l → u ≡ slotsAfter d n l x vs
+  reset-made e u p = rw e p
 
--- a refusal, and the commands that only read rows, change nothing
-pub keeps : (d : Decision) (t : Tables) (x : Supplement) (vs : List Value) → OneOf (0 ∷ 8 ∷ 9 ∷ 10 ∷ []) (tagOf the-type d) → t ≡ tablesFor d t x vs
-keeps (Refuse r) t x vs o = refl
-keeps Reset t x vs o = absurd (miss (0 ∷ 8 ∷ 9 ∷ 10 ∷ []) 1 tt o)
-keeps (Pend k) t x vs o = absurd (miss (0 ∷ 8 ∷ 9 ∷ 10 ∷ []) 2 tt o)
-keeps (Open k) t x vs o = absurd (miss (0 ∷ 8 ∷ 9 ∷ 10 ∷ []) 3 tt o)
-keeps (Load k) t x vs o = absurd (miss (0 ∷ 8 ∷ 9 ∷ 10 ∷ []) 4 tt o)
-keeps (Finish k) t x vs o = absurd (miss (0 ∷ 8 ∷ 9 ∷ 10 ∷ []) 5 tt o)
-keeps (Delete k) t x vs o = absurd (miss (0 ∷ 8 ∷ 9 ∷ 10 ∷ []) 6 tt o)
-keeps (Clear k) t x vs o = absurd (miss (0 ∷ 8 ∷ 9 ∷ 10 ∷ []) 7 tt o)
-keeps (Show k) t x vs o = refl
-keeps Enumerate t x vs o = refl
-keeps (Query k) t x vs o = refl
+  module _ (k : ℕ) (r : SlotRow) where
+    pub pend-made : d ≡ Pend k → r ≡ pendingRow (x .clock) vs → set l k r ≡ slotsAfter d n l x vs
+    pend-made e p = rw (e, p) refl
 
-module _ (d : Decision) (t : Tables) (x : Supplement) (vs : List Value) where
-  pub reset-made : d ≡ Reset → (l : List SlotRow) → l ≡ mapped (t .«slot_count») resetSlot (t .slots) → tables t l (t .registers) ≡ tablesFor d t x vs
-  reset-made e l p = rw (e, p) refl
+    pub delete-made : d ≡ Delete k → r ≡ freeSlot → set l k r ≡ slotsAfter d n l x vs
+    delete-made e p = rw (e, p) refl
 
-  module _ (k : ℕ) where
-    pub pend-made : d ≡ Pend k → (r : SlotRow) → r ≡ pendingRow (x .clock) vs → tables t (set (t .slots) k r) (t .registers) ≡ tablesFor d t x vs
-    pend-made e r p = rw (e, p) refl
+    module _ (z : length l ≡ 8) (y : SlotRow) where
+      pub open-made : d ≡ Open k → k < 8 → r ≡ movedSlot Loading (getD l k y) → set l k r ≡ slotsAfter d n l x vs
+      open-made e h p = rw (e, p, getD-any l k y freeSlot (omega arith)) refl
 
-    pub load-made : d ≡ Load k → (r : RegisterRow) → r ≡ filledRegister (cardOf x vs) → tables t (t .slots) (set (t .registers) k r) ≡ tablesFor d t x vs
-    load-made e r p = rw (e, p) refl
+      pub finish-made : d ≡ Finish k → k < 8 → r ≡ movedSlot Idle (getD l k y) → set l k r ≡ slotsAfter d n l x vs
+      finish-made e h p = rw (e, p, getD-any l k y freeSlot (omega arith)) refl
 
-    pub delete-made : d ≡ Delete k → (r : SlotRow) → r ≡ freeSlot → (s : List ℕ) → s ≡ firstText vs → (l : List RegisterRow) → l ≡ mapped (t .«register_count») (withoutSlot s) (t .registers)
-        → tables t (set (t .slots) k r) l ≡ tablesFor d t x vs
-    delete-made e r p s q l w = rw (e, p, w, q) refl
+-- change_registers: l are the cards
+module _ (d : Decision) (m : ℕ) (owners : List ℕ) (l : List (List ℕ)) (x : Supplement) (vs : List Value) (can : CanChangeRegisters d m owners (rowsWith l) x vs) (k : ℕ) where
+  module _ (e : d ≡ Load k) where
+    pub load-can : k < 32
+    load-can = (rw e at can) .0
 
-    pub clear-made : d ≡ Clear k → (r : RegisterRow) → r ≡ freeRegister → tables t (t .slots) (set (t .registers) k r) ≡ tablesFor d t x vs
-    clear-made e r p = rw (e, p) refl
+    pub load-fits : k * 256 < 2 ^ 64
+    load-fits = register-fits k load-can
 
-    module _ (z : length (t .slots) ≡ 8) (y : SlotRow) (r : SlotRow) where
-      pub open-made : d ≡ Open k → k < 8 → r ≡ movedSlot Loading (getD (t .slots) k y) → tables t (set (t .slots) k r) (t .registers) ≡ tablesFor d t x vs
-      open-made e h p = rw (e, p, getD-any (t .slots) k y freeSlot (omega arith)) refl
+    pub load-fields : areFieldsOf KL vs ≡ true
+    load-fields = (rw e at can) .1 .0
 
-      pub finish-made : d ≡ Finish k → k < 8 → r ≡ movedSlot Idle (getD (t .slots) k y) → tables t (set (t .slots) k r) (t .registers) ≡ tablesFor d t x vs
-      finish-made e h p = rw (e, p, getD-any (t .slots) k y freeSlot (omega arith)) refl
+    pub load-length : length (cardOf x vs) ≤ 256
+    load-length = (rw e at can) .1 .1
+
+    pub load-made : (c : List ℕ) → c ≡ inRow (cardOf x vs) → rowsWith (set l k c) ≡ registersAfter d m (rowsWith l) x vs
+    unfolding filledRegister
+    load-made c p = rw (e, p) (map-set rowWith l k (inRow (cardOf x vs)))
+
+  module _ (e : d ≡ Delete k) where
+    pub delete-sum : (j : ℕ) → j ≤ 8 → k + j < 2 ^ 64
+    delete-sum j l = let h : k < 8 = (rw e at can) .0 in omega arith
+
+    pub delete-count : m ≤ 32
+    delete-count = (rw e at can) .1 .0
+
+    pub delete-cards : length l ≡ 32 → m ≤ length l
+    delete-cards z = let h = delete-count in omega arith
+
+    pub cards-freed : length owners ≡ 32 → (u : List (List ℕ)) → u ≡ freed (k + 1) (take m owners) l → rowsWith u ≡ registersAfter d m (rowsWith l) x vs
+    cards-freed z u p =
+        let h = delete-count in
+        rw (e, p) (freed-rows (k + 1) (firstText vs) (take m owners) m l ((rw e at can) .1 .1) (length-take-le m owners (omega arith)))
+
+  module _ (e : d ≡ Clear k) where
+    pub clear-can : k < 32
+    clear-can = rw e at can
+
+    pub clear-fits : k * 256 < 2 ^ 64
+    clear-fits = register-fits k clear-can
+
+    pub clear-made : rowsWith (set l k (replicate 256 0)) ≡ registersAfter d m (rowsWith l) x vs
+    unfolding freeRegister
+    clear-made = rw e (map-set rowWith l k (replicate 256 0))
+
+-- the card that was stored
+pub has-stored : (d : Decision) (x : Supplement) (vs : List Value) (s : Stored) → s .card ≡ inRow (cardOf x vs) → s .length ≡ length (cardOf x vs) → length (cardOf x vs) ≤ 256 → HasStored d s x vs
+unfolding inRow
+has-stored d x vs s e n h k p = (omega (arith, n), (rw e (take-at (cardOf x vs) _ (s .length) (sym n))))
+
+-- no other decision is a load
+module _ (d : Decision) (x : Supplement) (vs : List Value) (s : Stored) where
+  pub delete-stores-none : (j : ℕ) → d ≡ Delete j → HasStored d s x vs
+  delete-stores-none j e k p =
+      let a : tagOf the-type d ≡ 4 = rw p refl in
+      let b : tagOf the-type d ≡ 6 = rw e refl in
+      absurd (omega (arith, a, b))
+
+  pub clear-stores-none : (j : ℕ) → d ≡ Clear j → HasStored d s x vs
+  clear-stores-none j e k p =
+      let a : tagOf the-type d ≡ 4 = rw p refl in
+      let b : tagOf the-type d ≡ 7 = rw e refl in
+      absurd (omega (arith, a, b))
+
+  pub stores-none : OneOf registerless (tagOf the-type d) → HasStored d s x vs
+  stores-none o k p = absurd (miss registerless 4 tt (rw p at o))

@@ -1,19 +1,21 @@
 -- The rows after a decision (document 01, Slots and registers): vs are the request's fields, x the supplement, n and m the rows that there are of the places.
-use Prim.Native.Nat.{ℕ, _≤_, _<_}
+use Prim.Native.Nat.{ℕ, _+_, _≤_, _<_}
 use mathlib.Core.Path.{_≡_}
 use mathlib.Core.Bool.{true}
 use mathlib.Core.List.{List}
-use lib.ListN.{length, getD, set}
+use lib.ListN.{length, getD, set, take}
 use Rattle.fields.specs.Values.{Value}
 use Rattle.commands.specs.declared.Command.the-variants.{KL, KF}
 use Rattle.rows.specs.Lists.{mapped}
 use Rattle.rows.specs.Slots.{freeSlot, movedSlot, resetSlot}
 use Rattle.rows.specs.Registers.{freeRegister, filledRegister, withoutSlot}
+use Rattle.card_writer.specs.declared.Stored.{Stored}
 use Rattle.rows.specs.declared.SlotRow.{SlotRow}
 use Rattle.rows.specs.declared.RegisterRow.{RegisterRow}
 use Rattle.rows.specs.declared.Supplement.{Supplement}
 use Rattle.rows.specs.declared.Tables.{Tables}
 use Rattle.rows.specs.declared.SlotState.the-variants.{Loading, Idle}
+use Rattle.row_index.specs.Found.{AreOwnedBy}
 use Rattle.engine.specs.Requests.{areFieldsOf, firstText}
 use Rattle.request_parts.specs.Parts.{pendingRow, cardOf}
 use Rattle.engine.specs.declared.Decision.{Decision}
@@ -54,16 +56,33 @@ tablesFor d t x vs = record {
   «register_count» = t .«register_count»;
 }
 
--- what makes the change fit the places; it is known of each decision
-abbrev pub CanChange : Decision → Tables → Supplement → List Value → Type 0
-CanChange (Refuse r) t x vs = Unit {0}
-CanChange Reset t x vs = t .«slot_count» ≤ 8
-CanChange (Pend k) t x vs = (k < 8) × (areFieldsOf KF vs ≡ true)
-CanChange (Open k) t x vs = k < 8
-CanChange (Load k) t x vs = (k < 32) × ((areFieldsOf KL vs ≡ true) × (length (cardOf x vs) ≤ 256))
-CanChange (Finish k) t x vs = k < 8
-CanChange (Delete k) t x vs = (k < 8) × ((t .«register_count» ≤ 32) × (areFieldsOf KF vs ≡ true))
-CanChange (Clear k) t x vs = k < 32
-CanChange (Show k) t x vs = Unit {0}
-CanChange Enumerate t x vs = Unit {0}
-CanChange (Query k) t x vs = Unit {0}
+-- what makes the change fit the places, and what the owners tell of the registers under a slot that is deleted; it is known of each decision
+abbrev pub CanChangeSlots : Decision → ℕ → List Value → Type 0
+CanChangeSlots (Refuse r) n vs = Unit {0}
+CanChangeSlots Reset n vs = n ≤ 8
+CanChangeSlots (Pend k) n vs = (k < 8) × (areFieldsOf KF vs ≡ true)
+CanChangeSlots (Open k) n vs = k < 8
+CanChangeSlots (Load k) n vs = Unit {0}
+CanChangeSlots (Finish k) n vs = k < 8
+CanChangeSlots (Delete k) n vs = k < 8
+CanChangeSlots (Clear k) n vs = Unit {0}
+CanChangeSlots (Show k) n vs = Unit {0}
+CanChangeSlots Enumerate n vs = Unit {0}
+CanChangeSlots (Query k) n vs = Unit {0}
+
+abbrev pub CanChangeRegisters : Decision → ℕ → List ℕ → List RegisterRow → Supplement → List Value → Type 0
+CanChangeRegisters (Refuse r) m owners l x vs = Unit {0}
+CanChangeRegisters Reset m owners l x vs = Unit {0}
+CanChangeRegisters (Pend k) m owners l x vs = Unit {0}
+CanChangeRegisters (Open k) m owners l x vs = Unit {0}
+CanChangeRegisters (Load k) m owners l x vs = (k < 32) × ((areFieldsOf KL vs ≡ true) × (length (cardOf x vs) ≤ 256))
+CanChangeRegisters (Finish k) m owners l x vs = Unit {0}
+CanChangeRegisters (Delete k) m owners l x vs = (k < 8) × ((m ≤ 32) × AreOwnedBy (k + 1) (firstText vs) (take m owners) (take m l))
+CanChangeRegisters (Clear k) m owners l x vs = k < 32
+CanChangeRegisters (Show k) m owners l x vs = Unit {0}
+CanChangeRegisters Enumerate m owners l x vs = Unit {0}
+CanChangeRegisters (Query k) m owners l x vs = Unit {0}
+
+-- the card that SM?KL stored, in as much of the space as it is long
+abbrev pub HasStored : Decision → Stored → Supplement → List Value → Type 0
+HasStored d s x vs = (k : ℕ) → d ≡ Load k → (s .length ≤ 256) × (take (s .length) (s .card) ≡ cardOf x vs)

@@ -1,71 +1,100 @@
 // The rows after a decision (document 01, "Slots and registers"). The tables are changed in one place, and a row at a time but for the two sweeps.
+use card_writer::Stored;
 use engine::Decision;
-use rows::RegisterRow;
+use rows::SlotRow;
 use rows::SlotState;
 use rows::Supplement;
-use rows::Tables;
 ghost use mathlib.Core.Path.{_≡_};
-ghost use mathlib.Core.Bool.{true};
-ghost use Prim.Native.Nat.{_≤_};
 ghost use lib.ListN.{length};
 ghost use Rattle.fields.specs.Values.{valuesOf};
-ghost use Rattle.commands.specs.declared.Command.the-variants.{KL};
-ghost use Rattle.rows.specs.Registers.{filledRegister};
-ghost use Rattle.engine.specs.Requests.{areFieldsOf};
-ghost use Rattle.request_parts.specs.Parts.{cardOf};
-ghost use Rattle.changes.specs.Changes.{tablesFor, CanChange};
+ghost use Rattle.row_index.specs.Lent.{rowsWith};
+ghost use Rattle.changes.specs.Changes.{slotsAfter, registersAfter, CanChangeSlots, CanChangeRegisters, HasStored};
 
-// The row that SM?KL fills.
-fn loaded_row(p: &[u8], x: Supplement) -> RegisterRow
-    requires { ⌜ (areFieldsOf KL (valuesOf (now p)) ≡ true) × (length (cardOf x (valuesOf (now p))) ≤ 256) ⌝ }
-    ensures { λ r. ⌜ r ≡ filledRegister (cardOf x (valuesOf (now (p .entry)))) ⌝ }
+// The slot rows after a decision on a request with the payload p.
+pub fn change_slots(
+    d: Decision,
+    slots: [SlotRow; 8],
+    n: usize,
+    x: Supplement,
+    p: &[u8],
+) -> [SlotRow; 8]
+    requires { ⌜ CanChangeSlots d n (valuesOf (now p)) ⌝ }
+    ensures { λ u. ⌜ u ≡ slotsAfter d n slots x (valuesOf (now (p .entry))) ⌝ }
 {
-    let s = request_parts::loaded_card(p, x);
-    let card = s.card;
-    RegisterRow { card }
-}
-
-// The tables after a decision on a request with the payload p.
-pub fn change(d: Decision, t: Tables, x: Supplement, p: &[u8]) -> Tables
-    requires { ⌜ CanChange d t x (valuesOf (now p)) ⌝ }
-    ensures { λ u. ⌜ u ≡ tablesFor d t x (valuesOf (now (p .entry))) ⌝ }
-{
-    let mut u = t;
-    let slots = t.slots;
-    let registers = t.registers;
+    let mut u = slots;
     match d {
-        Decision::Refuse(_) | Decision::Show(_) | Decision::Enumerate | Decision::Query(_) => u,
-        Decision::Reset => {
-            let reset = slot_tables::reset_slots(slots, t.slot_count);
-            u.slots = reset;
-            u
-        }
+        Decision::Reset => slot_tables::reset_slots(slots, n),
         Decision::Pend(k) => {
-            u.slots[k] = request_parts::pending_row(p, &x.clock);
+            u[k] = request_parts::pending_row(p, &x.clock);
             u
         }
         Decision::Open(k) => {
-            u.slots[k] = slot_rows::moved_slot(SlotState::Loading, slots[k]);
-            u
-        }
-        Decision::Load(k) => {
-            u.registers[k] = loaded_row(p, x);
+            u[k] = slot_rows::moved_slot(SlotState::Loading, slots[k]);
             u
         }
         Decision::Finish(k) => {
-            u.slots[k] = slot_rows::moved_slot(SlotState::Idle, slots[k]);
+            u[k] = slot_rows::moved_slot(SlotState::Idle, slots[k]);
             u
         }
         Decision::Delete(k) => {
-            u.slots[k] = slot_rows::free_slot();
-            let s = request_parts::only_text(p);
-            let left = register_tables::without_keys_of(registers, t.register_count, s);
-            u.registers = left;
+            u[k] = slot_rows::free_slot();
             u
+        }
+        Decision::Refuse(_)
+        | Decision::Load(_)
+        | Decision::Clear(_)
+        | Decision::Show(_)
+        | Decision::Enumerate
+        | Decision::Query(_) => u,
+    }
+}
+
+// No card.
+fn no_card() -> Stored
+    ensures { λ s. ⌜ s .length ≡ 0 ⌝ }
+{
+    Stored {
+        card: [0; 256],
+        length: 0,
+    }
+}
+
+// Changes the cards of the register rows, the first m of them the caller's, by a decision on a request with the payload p; owners are the numbers of the slots that own them.
+// Answers the card that SM?KL stored, so that its response need not make it again.
+pub fn change_registers(
+    d: Decision,
+    cards: &mut [[u8; 256]],
+    m: usize,
+    owners: [usize; 32],
+    x: Supplement,
+    p: &[u8],
+) -> Stored
+    requires { ⌜ (length (now cards) ≡ 32) × CanChangeRegisters d m owners (rowsWith (now cards)) x (valuesOf (now p)) ⌝ }
+    ensures { λ _. ⌜ rowsWith (now (cards .exit)) ≡ registersAfter d m (rowsWith (now (cards .entry))) x (valuesOf (now (p .entry))) ⌝ }
+    ensures stored { λ s. ⌜ HasStored d s x (valuesOf (now (p .entry))) ⌝ }
+{
+    match d {
+        Decision::Load(k) => {
+            let s = request_parts::loaded_card(p, x);
+            let card = s.card;
+            cards[k] = card;
+            s
+        }
+        Decision::Delete(k) => {
+            register_tables::free_owned(cards, owners, m, k + 1);
+            no_card()
         }
         Decision::Clear(k) => {
-            u.registers[k] = register_rows::free_register();
-            u
+            cards[k] = [0; 256];
+            no_card()
         }
+        Decision::Refuse(_)
+        | Decision::Reset
+        | Decision::Pend(_)
+        | Decision::Open(_)
+        | Decision::Finish(_)
+        | Decision::Show(_)
+        | Decision::Enumerate
+        | Decision::Query(_) => no_card(),
     }
 }

@@ -2,12 +2,13 @@
 use mathlib.Core.Path.{_≡_}
 use mathlib.Core.Bool.{true, false}
 use mathlib.Core.List.{List}
+use Prim.Native.Nat.{ℕ}
 use Rattle.octets.proofs.Flags.{nope}
 use Rattle.fields.specs.Values.{Value}
 use Rattle.commands.specs.declared.Command.{Command}
 use Rattle.rows.specs.declared.SlotRow.{SlotRow}
-use Rattle.rows.specs.declared.RegisterRow.{RegisterRow}
 use Rattle.rows.specs.declared.Supplement.{Supplement}
+use Rattle.row_index.specs.Found.{AreKeys}
 use Rattle.engine.specs.Requests.{isOneOfTen}
 use Rattle.engine.specs.Questions.{Call}
 use Rattle.engine.specs.Decisions.{decisionFor}
@@ -21,15 +22,15 @@ module _ (c o : Command) (e : c ≡ o) (vs : List Value) (d : Decision) where
   pub arm-slots : (l : List SlotRow) → ((k : Call) → k .slots ≡ l → d ≡ decisionFor k o vs) → (k : Call) → k .slots ≡ l → d ≡ decisionFor k c vs
   arm-slots l all k h = rw e (all k h)
 
-  pub arm-registers : (l : List RegisterRow) → ((k : Call) → k .registers ≡ l → d ≡ decisionFor k o vs) → (k : Call) → k .registers ≡ l → d ≡ decisionFor k c vs
-  arm-registers l all k h = rw e (all k h)
+  pub arm-registers : (keys : List ℕ) → ((k : Call) → AreKeys keys (k .registers) → d ≡ decisionFor k o vs) → (k : Call) → AreKeys keys (k .registers) → d ≡ decisionFor k c vs
+  arm-registers keys all k h = rw e (all k h)
 
   pub arm-session : (l : List SlotRow) (x : Supplement) → ((k : Call) → k .slots ≡ l → k .supplement ≡ x → d ≡ decisionFor k o vs) → (k : Call) → k .slots ≡ l → k .supplement ≡ x → d ≡ decisionFor k c vs
   arm-session l x all k h g = rw e (all k h g)
 
-  pub arm-load : (l : List SlotRow) (r : List RegisterRow) (x : Supplement) → ((k : Call) → k .slots ≡ l → k .registers ≡ r → k .supplement ≡ x → d ≡ decisionFor k o vs)
-      → (k : Call) → k .slots ≡ l → k .registers ≡ r → k .supplement ≡ x → d ≡ decisionFor k c vs
-  arm-load l r x all k h i g = rw e (all k h i g)
+  pub arm-load : (l : List SlotRow) (keys : List ℕ) (x : Supplement) → ((k : Call) → k .slots ≡ l → AreKeys keys (k .registers) → k .supplement ≡ x → d ≡ decisionFor k o vs)
+      → (k : Call) → k .slots ≡ l → AreKeys keys (k .registers) → k .supplement ≡ x → d ≡ decisionFor k c vs
+  arm-load l keys x all k h i g = rw e (all k h i g)
 
 -- a header that is none of the ten does not come so far
 pub no-arm : (c o : Command) → c ≡ o → isOneOfTen c ≡ true → isOneOfTen o ≡ false → (k : Call) (vs : List Value) (d : Decision) → d ≡ decisionFor k c vs

@@ -1,3 +1,4 @@
+pub mod ByKeys
 pub mod Known
 pub mod Asking
 pub mod Flat

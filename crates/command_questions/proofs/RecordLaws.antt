@@ -1,11 +1,13 @@
 -- The commands that bring a record: from what the code has read and found to the decision. c is any call over these rows and this supplement, p the payload.
 use mathlib.Core.Path.{_≡_, sym, ap, _∙_}
-use mathlib.Core.Bool.{Bool, true}
+use mathlib.Core.Bool.{Bool, true, false, not}
 use mathlib.Core.List.{List, [], _∷_}
 use Prim.Native.Nat.{ℕ, _-_, _≤_}
 use lib.ListN.{length, getD, take, drop}
+use borrow.Author.Tests.{not-false}
 use Rattle.fields.specs.Values.{valuesOf}
 use Rattle.identities.specs.Identities.{nameIn}
+use Rattle.key_records.specs.KeyRecords.{keyInForm}
 use Rattle.cards.specs.Entries.{between}
 use Rattle.cards.specs.declared.Found.{Found}
 use Rattle.cards.specs.declared.Found.the-variants as found
@@ -23,6 +25,7 @@ use Rattle.rows.specs.declared.SlotRow.{SlotRow}
 use Rattle.rows.specs.declared.RegisterRow.{RegisterRow}
 use Rattle.rows.specs.declared.Supplement.{Supplement}
 use Rattle.rows.specs.declared.SlotState.the-variants.{Pending, Loading}
+use Rattle.row_index.specs.Found.{AreKeys}
 use Rattle.engine.specs.Requests.{isAmong, areFieldsOf, firstText, kmcIdentityIn, cardIn}
 use Rattle.engine.specs.Questions.{Call, slotPlace, sessionPlace, placeIn, slotNamed, firstNo}
 use Rattle.engine.specs.Answers.{cardPlace}
@@ -68,26 +71,30 @@ module _ (c : Call) (p : List ℕ) (f : Found) (w : between p f ≡ textIn (valu
           → d ≡ decided (firstNo (openQuestions (take n l) x r (getD l k y))) (Open (placeIn (take n l) (slotPlace name (take n l)))) → d ≡ decisionFor c KR (valuesOf p)
       open-row-by x g s m e = open-by x g (rw (row-at l n z i name q s v k u y) at e)
 
--- KL: two strings
+-- KL: the wrapped key r was found in form,
+pub key-right : (r : List ℕ) (t : Bool) → not t ≡ false → t ≡ keyInForm r → keyInForm r ≡ true
+key-right r t o e = sym e ∙ not-false t o
+
+-- and then the slot s
+pub load-row-by : (l : List SlotRow) (n : ℕ) → length l ≡ 8 → n ≤ 8 → (s : List ℕ) (q : Place) → placeOf q ≡ slotPlace s (take n l) → PlaceWithin n q → (k : ℕ) → q ≡ At k
+    → (y : Bool) (z : SlotRow) → y ≡ hasState Loading (getD l k z) → (R : List RegisterRow) (x : Supplement) (r : List ℕ) (d o : Decision)
+    → d ≡ decided (firstNo (loadQuestions (take n l) R x s r (getD l k z))) o → d ≡ decided (firstNo (loadQuestions (take n l) R x s r (slotNamed s (take n l)))) o
+load-row-by l n i h s q w v k u y z is R x r d o e = rw (row-at l n i h s q w v k u z) at e
+
+-- two strings: d is what the code has decided of any registers that have the keys
 module _ (c : Call) (p : List ℕ) (f : TwoTexts) (w : firstBetween p f ≡ firstTextIn (valuesOf p)) where
   pub texts-refused : f ≡ texts.Nothing → Refuse BadFields ≡ decisionFor c KL (valuesOf p)
   texts-refused o = fields-refused c KL (valuesOf p) (texts-absent p (valuesOf p) f w o)
 
-  module _ (m : secondBetween p f ≡ secondTextIn (valuesOf p)) (a b i j : ℕ) (o : f ≡ texts.At a b i j) (l : List SlotRow) (n : ℕ) (h : c .slots ≡ take n l)
-      (x : Supplement) (g : c .supplement ≡ x) (t : List RegisterRow) (u : ℕ) (v : c .registers ≡ take u t) (d : Decision) where
+  module _ (m : secondBetween p f ≡ secondTextIn (valuesOf p)) (a b i j : ℕ) (o : f ≡ texts.At a b i j) (l : List SlotRow) (h : c .slots ≡ l)
+      (keys : List ℕ) (v : AreKeys keys (c .registers)) (x : Supplement) (g : c .supplement ≡ x) (d : Decision) where
     abbrev slot : List ℕ
     slot = take (b - a) (drop a p)
 
     abbrev wrapped : List ℕ
     wrapped = take (j - i) (drop i p)
 
-    abbrev stored : Decision
-    stored = Load (cardPlace (cardIn wrapped) (take u t))
-
-    pub load-by : d ≡ decided (firstNo (loadQuestions (take n l) (take u t) x slot wrapped (slotNamed slot (take n l)))) stored → d ≡ decisionFor c KL (valuesOf p)
-    load-by e =
-        (rw (← h, ← v, ← g) at e) ∙ load-is c (valuesOf p) slot wrapped (texts-present p (valuesOf p) f a b i j o w) (first-between p (valuesOf p) f a b i j o w) (second-between p (valuesOf p) f a b i j o m)
-
-    pub load-row-by : length l ≡ 8 → n ≤ 8 → (q : Place) → PlaceWithin n q → (k : ℕ) → q ≡ At k → placeOf q ≡ slotPlace slot (take n l) → (y : Bool) (z : SlotRow) → y ≡ hasState Loading (getD l k z)
-        → d ≡ decided (firstNo (loadQuestions (take n l) (take u t) x slot wrapped (getD l k z))) stored → d ≡ decisionFor c KL (valuesOf p)
-    load-row-by eight le q within k at s y z is e = load-by (rw (row-at l n eight le slot q s within k at z) at e)
+    pub load-by : ((R : List RegisterRow) → AreKeys keys R → d ≡ decided (firstNo (loadQuestions l R x slot wrapped (slotNamed slot l))) (Load (cardPlace (cardIn wrapped) R))) → d ≡ decisionFor c KL (valuesOf p)
+    load-by all =
+        (rw (← h, ← g) at (all (c .registers) v))
+        ∙ load-is c (valuesOf p) slot wrapped (texts-present p (valuesOf p) f a b i j o w) (first-between p (valuesOf p) f a b i j o w) (second-between p (valuesOf p) f a b i j o m)

@@ -90,12 +90,11 @@ module _ (c : Call) (vs : List Value) (d : Decision) where
     pub query-by : d ≡ doneAt Query (slotAsked l vs) → d ≡ decisionFor c KQ vs
     query-by e = (rw (← h) at e) ∙ query-is c vs
 
-  module _ (l : List RegisterRow) (h : c .registers ≡ l) where
-    pub clear-by : d ≡ doneAt Clear (registerAsked l vs) → d ≡ decisionFor c KD vs
-    clear-by e = (rw (← h) at e) ∙ clear-is c vs
+  pub clear-by : d ≡ doneAt Clear (registerAsked (c .registers) vs) → d ≡ decisionFor c KD vs
+  clear-by e = e ∙ clear-is c vs
 
-    pub show-by : d ≡ doneAt Show (registerAsked l vs) → d ≡ decisionFor c GA vs
-    show-by e = (rw (← h) at e) ∙ show-is c vs
+  pub show-by : d ≡ doneAt Show (registerAsked (c .registers) vs) → d ≡ decisionFor c GA vs
+  show-by e = e ∙ show-is c vs
 
 -- SM?KF: a slot that was found is asked for its session
 place-asked : (S : List SlotRow) (vs : List Value) (k : ℕ) → slotAsked S vs ≡ At k → slotPlace (firstText vs) S ≡ some k

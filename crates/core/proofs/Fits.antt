@@ -1,13 +1,15 @@
 -- What a decision says of its places, its strings and the room is enough to write its response and to change the rows.
-use mathlib.Core.Path.{_≡_, refl, sym, subst, _∙_}
-use mathlib.Core.Bool.{true, false}
-use mathlib.Core.List.{List, [], _∷_}
-use Prim.Native.Nat.{ℕ, zero, suc, _≤_, _<_}
+use mathlib.Core.Path.{_≡_, refl, sym, ap, subst, _∙_}
+use mathlib.Core.Bool.{true, false, not}
+use mathlib.Core.List.{List, [], _∷_, map}
+use mathlib.Core.Option.{Option, none, some}
+use Prim.Native.Nat.{ℕ, _+_, _≤_, _<_}
 use native.Mathlib.Omega.{arith}
 use lib.Dec.{leb}
-use lib.ListN.{length, take}
+use lib.ListN.{length, getD, take}
 use borrow.Author.Tests.{leb-true}
 use Rattle.octets.proofs.Flags.{nope, and-first, and-second}
+use Rattle.octets.proofs.StringLaws.{same-equal}
 use Rattle.timestamp.specs.Timestamps.{isTimestamp}
 use Rattle.text.proofs.Identify.{name-short}
 use Rattle.fields.specs.Values.{Value}
@@ -21,11 +23,24 @@ use Rattle.commands.specs.declared.Command.{Command}
 use Rattle.commands.specs.declared.Command.the-variants.{RS, KC, KR, KL, KF, KX, KD, GA, GL, KQ}
 use Rattle.payloads.proofs.PayloadLaws.{text-fields}
 use Rattle.rows.specs.Supplements.{isWellFormed, isIdentityRight, isLoadRequestRight}
+use Rattle.rows.specs.Lists.{everyRow}
+use Rattle.rows.specs.Slots.{hasState, kmcidOf, isNamed, isSlotSound, freeSlot}
+use Rattle.rows.specs.Sound.{areSound}
+use Rattle.rows.specs.Index.{keptName}
+use Rattle.rows.specs.Places.{slotRows, registerRows}
+use Rattle.rows.specs.declared.SlotRow.{SlotRow}
+use Rattle.rows.specs.declared.SlotState.the-variants.{Free}
+use Rattle.rows.proofs.ListLaws.{found}
+use Rattle.row_index.specs.Found.{ownerNumber, AreOwnedBy}
+use Rattle.row_index.specs.Lent.{tablesWith}
+use Rattle.card_writer.specs.declared.Stored.{Stored}
+use Rattle.row_index.proofs.LentLaws.{take-short}
+use Rattle.row_index.proofs.OwnerLaws.{owned-by-number}
 use Rattle.rows.specs.declared.Supplement.{Supplement}
 use Rattle.rows.specs.declared.Tables.{Tables}
 use Rattle.engine.specs.Refusals.{Header, silent, general, own, refusal}
 use Rattle.engine.specs.Requests.{fieldsIn, registerIn, recordIn, slotIn, cardIn, firstText}
-use Rattle.engine.specs.Questions.{Call}
+use Rattle.engine.specs.Questions.{Call, areCounts, slotPlace, placeIn, isPlace}
 use Rattle.engine.specs.Calls.{callIn}
 use Rattle.engine.specs.Decisions.{decisionOf}
 use Rattle.engine.specs.declared.Refusal.{Refusal}
@@ -39,9 +54,11 @@ use Rattle.refusals.proofs.TellingLaws.{can-tell}
 use Rattle.request_parts.specs.Parts.{cardOf}
 use Rattle.session_replies.specs.Room.{HasRoom}
 use Rattle.responding.specs.Responding.{CanRespond}
-use Rattle.changes.specs.Changes.{CanChange}
+use Rattle.changes.specs.Changes.{registersAfter, CanChangeSlots, CanChangeRegisters, HasStored}
 use Rattle.engine.proofs.Places.{filled-below}
 use Rattle.row_counts.proofs.CountLaws.{slots-few, registers-few}
+use Rattle.core.specs.Owners.{AreOwners}
+use Rattle.core.proofs.Front.{getD-front}
 use Rattle.core.proofs.DoneBy.{load-place, pend-place, open-place, finish-place, delete-place, clear-place, show-place, query-place}
 use Rattle.core.proofs.Asked.{Asked, asked-of, slot-below, session-below, card-below}
 
@@ -80,11 +97,6 @@ general-tells silent n m e r = tt
 general-tells general n m e r = r
 general-tells own n m e r = nope (cc)
 
-take-short : {A : Type 0} (n : ℕ) (l : List A) → length (take n l) ≤ n
-take-short zero l = omega arith
-take-short (suc n) [] = omega arith
-take-short (suc n) (x ∷ xs) = let h = take-short n xs in omega arith
-
 module _ (c : Call) where
   tells : (r : Refusal) → decisionOf c ≡ Refuse r → CanTell (refusal r .header) (length (c .request)) (c .room)
   tells r e = go (refusal-group c r (refused-first c r e))
@@ -105,8 +117,23 @@ module _ (c : Call) where
   unfolding recordIn slotIn
   loaded-short k e = is-short c (fieldsIn (c .request)) (yes-at (Load k) e refl)
 
+-- a slot that was found, and the KMCID that its row keeps
+found-at : (s : List ℕ) (l : List SlotRow) (k : ℕ) → isPlace (slotPlace s l) ≡ true → placeIn l (slotPlace s l) ≡ k → slotPlace s l ≡ some k
+found-at s l k e p = go (slotPlace s l) refl e p
+  where
+    go : (o : Option ℕ) → slotPlace s l ≡ o → isPlace o ≡ true → placeIn l o ≡ k → slotPlace s l ≡ some k
+    go (some j) w a b = w ∙ ap (λ (n : ℕ). some n) b
+    go none w a b = nope (cc)
+
+kept-at : (s : List ℕ) (n : ℕ) (l : List SlotRow) (k : ℕ) → slotPlace s (take n l) ≡ some k → kmcidOf (getD l k freeSlot) ≡ s
+unfolding isNamed
+kept-at s n l k p =
+    let f = found (isNamed s) freeSlot (take n l) k p in
+    rw (getD-front n l k freeSlot (f .0)) (same-equal (kmcidOf (getD (take n l) k freeSlot)) s (and-second (not (hasState Free (getD (take n l) k freeSlot))) _ (f .1)))
+
 -- the places of a call over tables by value
-module _ (t : Tables) (x : Supplement) (q : List ℕ) (room : ℕ) where
+module _ (t : Tables) (x : Supplement) (q : List ℕ) (room : ℕ) (owners : List ℕ)
+    (told : areCounts (t .«slot_count») (t .«register_count») ≡ true → AreOwners owners (slotRows t) (registerRows t) (t .«register_count»)) where
   abbrev k₀ : Call
   k₀ = callIn t x q room
 
@@ -131,53 +158,90 @@ module _ (t : Tables) (x : Supplement) (q : List ℕ) (room : ℕ) where
       let y = asked-of k₀ (Load k) e refl in
       register-place KL y k _ (load-place k₀ k e) (card-below (cardIn (recordIn KL vs)) (k₀ .registers) (y .1 .1 .1 .1 .1 .1 .1 .1 .1 .1 .1 .1 .1 .1 .1 .1 .1 .1 .1 .0))
 
-  pub can-respond : (d : Decision) → decisionOf k₀ ≡ d → CanRespond d t x q room
+  delete-low : (k : ℕ) → decisionOf k₀ ≡ Delete k → k < 8
+  delete-low k e =
+      let y = asked-of k₀ (Delete k) e refl in
+      slot-place KX y k _ (delete-place k₀ k e) (slot-below (slotIn KX vs) (k₀ .slots) (y .1 .1 .1 .1 .1 .1 .1 .1 .1 .1 .1 .0))
+
+  -- the owners tell the registers under a slot that was found
+  owned-at : (o : Command) → Asked k₀ o → (s : List ℕ) (k : ℕ) → slotPlace s (slotRows t) ≡ some k → AreOwnedBy (k + 1) s (take (t .«register_count») owners) (registerRows t)
+  unfolding areSound
+  owned-at o y s k p =
+      let e : take (t .«register_count») owners ≡ map (ownerNumber (map keptName (slotRows t))) (registerRows t) = told (y .0) (y .1 .1 .0) in
+      rw e (owned-by-number (slotRows t) (and-first (everyRow isSlotSound (slotRows t)) _ (y .1 .1 .0)) s k p (registerRows t))
+
+  deleted-at : (k : ℕ) → decisionOf k₀ ≡ Delete k → slotPlace (slotIn KX vs) (slotRows t) ≡ some k
+  deleted-at k e = found-at (slotIn KX vs) (slotRows t) k (asked-of k₀ (Delete k) e refl .1 .1 .1 .1 .1 .1 .1 .1 .1 .1 .1 .0) (delete-place k₀ k e)
+
+  queried-at : (k : ℕ) → decisionOf k₀ ≡ Query k → slotPlace (slotIn KQ vs) (slotRows t) ≡ some k
+  queried-at k e = found-at (slotIn KQ vs) (slotRows t) k (asked-of k₀ (Query k) e refl .1 .1 .1 .1 .1 .1 .1 .1 .1 .1 .1 .0) (query-place k₀ k e)
+
+  -- the response is written over the register rows after the decision; the three commands that look at them change none
+  abbrev after : Decision → Tables
+  after d = tablesWith (t .slots) (t .«slot_count») (registersAfter d (t .«register_count») (t .registers) x vs) (t .«register_count»)
+
+  pub can-respond : (d : Decision) → decisionOf k₀ ≡ d → (c : Stored) → HasStored d c x vs → CanRespond d (after d) owners c x q room
   unfolding recordIn
-  can-respond (Refuse r) e = tells k₀ r e
-  can-respond Reset e = has-room k₀ RS (asked-of k₀ Reset e refl)
-  can-respond (Pend k) e =
+  can-respond (Refuse r) e c w = tells k₀ r e
+  can-respond Reset e c w = has-room k₀ RS (asked-of k₀ Reset e refl)
+  can-respond (Pend k) e c w =
       let y = asked-of k₀ (Pend k) e refl in
       (has-room k₀ KC y, (sym (text-fields KC vs refl) ∙ y .1 .1 .1 .1 .1 .1 .1 .0, (public-short (firstText vs) (and-first (publicKeyInForm (firstText vs)) true (y .1 .1 .1 .1 .1 .1 .1 .1 .1 .0)), request-short x (y .1 .1 .1 .0))))
-  can-respond (Open k) e =
+  can-respond (Open k) e c w =
       let y = asked-of k₀ (Open k) e refl in
       (has-room k₀ KR y, (sym (text-fields KR vs refl) ∙ y .1 .1 .1 .1 .1 .1 .1 .0, response-short (firstText vs) (and-first (responseInForm (firstText vs)) true (y .1 .1 .1 .1 .1 .1 .1 .1 .1 .0))))
-  can-respond (Load k) e =
+  can-respond (Load k) e c w =
       let y = asked-of k₀ (Load k) e refl in
-      (has-room k₀ KL y, (y .1 .1 .1 .1 .1 .1 .1 .0, (loaded-short k₀ k e, load-low k e)))
-  can-respond (Finish k) e = has-room k₀ KF (asked-of k₀ (Finish k) e refl)
-  can-respond (Delete k) e = has-room k₀ KX (asked-of k₀ (Delete k) e refl)
-  can-respond (Clear k) e = has-room k₀ KD (asked-of k₀ (Clear k) e refl)
-  can-respond (Show k) e =
+      (has-room k₀ KL y, (w k refl .0, (w k refl .1, load-low k e)))
+  can-respond (Finish k) e c w = has-room k₀ KF (asked-of k₀ (Finish k) e refl)
+  can-respond (Delete k) e c w = has-room k₀ KX (asked-of k₀ (Delete k) e refl)
+  can-respond (Clear k) e c w = has-room k₀ KD (asked-of k₀ (Clear k) e refl)
+  can-respond (Show k) e c w =
       let y = asked-of k₀ (Show k) e refl in
       (has-room k₀ GA y, register-place GA y k _ (show-place k₀ k e) (filled-below (registerIn vs) (k₀ .registers) (y .1 .1 .1 .1 .1 .1 .1 .1 .1 .1 .1 .1 .1 .1 .1 .1 .1 .1 .1 .1 .0)))
-  can-respond Enumerate e =
+  can-respond Enumerate e c w =
       let y = asked-of k₀ Enumerate e refl in
       (has-room k₀ GL y, slots-few (t .«slot_count») (t .«register_count») (y .0))
-  can-respond (Query k) e =
+  can-respond (Query k) e c w =
       let y = asked-of k₀ (Query k) e refl in
-      (has-room k₀ KQ y, (slot-place KQ y k _ (query-place k₀ k e) (slot-below (slotIn KQ vs) (k₀ .slots) (y .1 .1 .1 .1 .1 .1 .1 .1 .1 .1 .1 .0)), registers-few (t .«slot_count») (t .«register_count») (y .0)))
+      let p = queried-at k e in
+      (has-room k₀ KQ y, (slot-place KQ y k _ (query-place k₀ k e) (slot-below (slotIn KQ vs) (k₀ .slots) (y .1 .1 .1 .1 .1 .1 .1 .1 .1 .1 .1 .0)), (registers-few (t .«slot_count») (t .«register_count») (y .0), rw (kept-at (slotIn KQ vs) (t .«slot_count») (t .slots) k p) (owned-at KQ y (slotIn KQ vs) k p))))
 
-  pub can-change : (d : Decision) → decisionOf k₀ ≡ d → CanChange d t x vs
-  can-change (Refuse r) e = tt
-  can-change Reset e = slots-few (t .«slot_count») (t .«register_count») (asked-of k₀ Reset e refl .0)
-  can-change (Pend k) e =
+  pub can-slots : (d : Decision) → decisionOf k₀ ≡ d → CanChangeSlots d (t .«slot_count») vs
+  can-slots (Refuse r) e = tt
+  can-slots Reset e = slots-few (t .«slot_count») (t .«register_count») (asked-of k₀ Reset e refl .0)
+  can-slots (Pend k) e =
       let y = asked-of k₀ (Pend k) e refl in
       (slot-place KC y k _ (pend-place k₀ k e) (session-below (slotIn KC vs) (k₀ .slots) (y .1 .1 .1 .1 .1 .1 .1 .1 .1 .1 .1 .1 .0)), sym (text-fields KC vs refl) ∙ y .1 .1 .1 .1 .1 .1 .1 .0)
-  can-change (Open k) e =
+  can-slots (Open k) e =
       let y = asked-of k₀ (Open k) e refl in
       slot-place KR y k _ (open-place k₀ k e) (slot-below (slotIn KR vs) (k₀ .slots) (y .1 .1 .1 .1 .1 .1 .1 .1 .1 .1 .1 .0))
-  can-change (Load k) e =
-      let y = asked-of k₀ (Load k) e refl in
-      (load-low k e, (y .1 .1 .1 .1 .1 .1 .1 .0, loaded-short k₀ k e))
-  can-change (Finish k) e =
+  can-slots (Load k) e = tt
+  can-slots (Finish k) e =
       let y = asked-of k₀ (Finish k) e refl in
       slot-place KF y k _ (finish-place k₀ k e) (slot-below (slotIn KF vs) (k₀ .slots) (y .1 .1 .1 .1 .1 .1 .1 .1 .1 .1 .1 .0))
-  can-change (Delete k) e =
+  can-slots (Delete k) e = delete-low k e
+  can-slots (Clear k) e = tt
+  can-slots (Show k) e = tt
+  can-slots Enumerate e = tt
+  can-slots (Query k) e = tt
+
+  pub can-registers : (d : Decision) → decisionOf k₀ ≡ d → CanChangeRegisters d (t .«register_count») owners (t .registers) x vs
+  unfolding slotIn
+  can-registers (Refuse r) e = tt
+  can-registers Reset e = tt
+  can-registers (Pend k) e = tt
+  can-registers (Open k) e = tt
+  can-registers (Load k) e =
+      let y = asked-of k₀ (Load k) e refl in
+      (load-low k e, (y .1 .1 .1 .1 .1 .1 .1 .0, loaded-short k₀ k e))
+  can-registers (Finish k) e = tt
+  can-registers (Delete k) e =
       let y = asked-of k₀ (Delete k) e refl in
-      (slot-place KX y k _ (delete-place k₀ k e) (slot-below (slotIn KX vs) (k₀ .slots) (y .1 .1 .1 .1 .1 .1 .1 .1 .1 .1 .1 .0)), (registers-few (t .«slot_count») (t .«register_count») (y .0), sym (text-fields KX vs refl) ∙ y .1 .1 .1 .1 .1 .1 .1 .0))
-  can-change (Clear k) e =
+      (delete-low k e, (registers-few (t .«slot_count») (t .«register_count») (y .0), owned-at KX y (slotIn KX vs) k (deleted-at k e)))
+  can-registers (Clear k) e =
       let y = asked-of k₀ (Clear k) e refl in
       register-place KD y k _ (clear-place k₀ k e) (filled-below (registerIn vs) (k₀ .registers) (y .1 .1 .1 .1 .1 .1 .1 .1 .1 .1 .1 .1 .1 .1 .1 .1 .1 .1 .1 .1 .0))
-  can-change (Show k) e = tt
-  can-change Enumerate e = tt
-  can-change (Query k) e = tt
+  can-registers (Show k) e = tt
+  can-registers Enumerate e = tt
+  can-registers (Query k) e = tt

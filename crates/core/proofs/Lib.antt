@@ -3,6 +3,7 @@ pub mod DoneBy
 pub mod Asked
 pub mod RowsAfter
 pub mod Fits
+pub mod FoundLaws
 pub mod HandleLaws
 pub mod EntryLists
 pub mod EntryReads

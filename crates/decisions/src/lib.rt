@@ -2,12 +2,19 @@
 use commands::Command;
 use engine::Decision;
 use engine::Refusal;
+use rows::SlotRow;
 use rows::Supplement;
-use rows::Tables;
 ghost use mathlib.Core.Path.{_≡_};
+ghost use mathlib.Core.Bool.{true};
+ghost use mathlib.Core.List.{List};
+ghost use lib.ListN.{take};
+ghost use Rattle.rows.specs.declared.RegisterRow.{RegisterRow};
+ghost use Rattle.row_index.specs.Lent.{tablesWith};
 ghost use Rattle.engine.specs.Requests.{isOneOfTen};
+ghost use Rattle.engine.specs.Questions.{areCounts};
 ghost use Rattle.engine.specs.Calls.{callIn};
 ghost use Rattle.engine.specs.Decisions.{decisionOf};
+ghost use Rattle.decisions.specs.Found.{IsFound};
 
 // Question 7: whether the header is one of the ten.
 fn is_one_of_ten(c: Command) -> bool
@@ -28,21 +35,26 @@ fn is_one_of_ten(c: Command) -> bool
     }
 }
 
-// What is to be done with a request.
-pub fn decide(t: Tables, x: Supplement, request: &[u8], room: usize) -> Decision
-    ensures { λ d. ⌜ d ≡ decisionOf (callIn t x (now (request .entry)) room) ⌝ }
+// What is to be done with a request; question 3 was answered before, with what it found of the registers.
+pub fn decide(
+    slots: [SlotRow; 8],
+    n: usize,
+    m: usize,
+    sound: bool,
+    keys: [u64; 32],
+    x: Supplement,
+    request: &[u8],
+    room: usize,
+) -> Decision
+    ensures { λ d. ⌜ ((R : List RegisterRow) → (areCounts n m ≡ true → IsFound sound keys (take n slots) (take m R) m) → d ≡ decisionOf (callIn (tablesWith slots n R m) x (now (request .entry)) room)) ⌝ }
 {
-    let n = t.slot_count;
-    let m = t.register_count;
     if !row_counts::are_counts(n, m) {
         return Decision::Refuse(Refusal::RowCounts);
     }
     if room < 1024 {
         return Decision::Refuse(Refusal::ShortBuffer);
     }
-    let slots = t.slots;
-    let registers = t.registers;
-    if !soundness::are_rows_sound(slots, n, registers, m) {
+    if !sound {
         return Decision::Refuse(Refusal::UnsoundRows);
     }
     if !supplements::is_well_formed(x) {
@@ -58,5 +70,5 @@ pub fn decide(t: Tables, x: Supplement, request: &[u8], room: usize) -> Decision
     if !is_one_of_ten(c) {
         return Decision::Refuse(Refusal::UnknownHeader);
     }
-    command_decisions::decide_command(c, slots, n, registers, m, x, frames::payload(request))
+    command_decisions::decide_command(c, slots, n, keys, m, x, frames::payload(request))
 }

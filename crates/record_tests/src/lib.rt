@@ -2,24 +2,27 @@
 use attributes::KRN;
 use attributes::SGC;
 use rows::Place;
-use rows::RegisterRow;
 use rows::SlotRow;
 use rows::SlotState;
 use rows::Supplement;
 ghost use mathlib.Core.Path.{_≡_};
-ghost use mathlib.Core.Bool.{_||_};
-ghost use mathlib.Core.List.{[]};
-ghost use Prim.Native.Nat.{_≤_};
+ghost use mathlib.Core.Bool.{true, _||_};
+ghost use mathlib.Core.List.{List, []};
+ghost use Prim.Native.Nat.{_+_, _*_, _≤_};
 ghost use lib.Dec.{eqb};
 ghost use lib.ListN.{take};
 ghost use Rattle.octets.specs.Strings.{sameBytes};
+ghost use Rattle.decimals.specs.Decimals.{decimal};
 ghost use Rattle.identities.specs.Identities.{nameIn, fingerprintIn};
+ghost use Rattle.key_records.specs.KeyRecords.{keyInForm};
 ghost use Rattle.cards.specs.Entries.{valueOf, orElse};
 ghost use Rattle.timestamp.specs.Timestamps.{timestampOf, isLater};
 ghost use Rattle.rows.specs.Slots.{hasState};
+ghost use Rattle.rows.specs.declared.RegisterRow.{RegisterRow};
 ghost use Rattle.rows.specs.declared.SlotState.the-variants.{Pending, Loading};
 ghost use Rattle.rows.specs.Places.{placeOf, PlaceWithin};
 ghost use Rattle.rows.specs.Supplements.{ownIdentity};
+ghost use Rattle.row_index.specs.Found.{AreKeys};
 ghost use Rattle.engine.specs.Requests.{kmcIdentityIn, moduleIdentityIn, expiryIn, tvpIn, tagIn, cardIn};
 ghost use Rattle.engine.specs.Questions.{isFilled, slotPlace, sessionPlace, storePlace, groupIn, revisionIn};
 
@@ -110,16 +113,26 @@ pub fn value_in<'a>(r: &'a [u8], name: u32) -> &'a [u8]
     cards::value(records::field(r, 124, 2), name)
 }
 
-// Question 17: the register that holds the card's SGC and KRN, else the lowest free one.
-pub fn store_place(registers: [RegisterRow; 32], m: usize, r: &[u8]) -> Place
-    requires { ⌜ m ≤ 32 ⌝ }
-    ensures { λ p. ⌜ placeOf p ≡ storePlace (groupIn (cardIn (now (r .entry)))) (revisionIn (cardIn (now (r .entry)))) (take m registers) ⌝ }
+// The key of the card in a record in form as a number: SGC, ten digits, and KRN, one.
+fn card_key(r: &[u8]) -> u64
+    requires { ⌜ keyInForm (now r) ≡ true ⌝ }
+    ensures { λ n. ⌜ n ≡ decimal (groupIn (cardIn (now (r .entry)))) * 10 + decimal (revisionIn (cardIn (now (r .entry)))) ⌝ }
 {
-    let held = register_searches::key_place(registers, m, value_in(r, SGC), value_in(r, KRN));
+    let group = decimals::decimal(value_in(r, SGC));
+    let revision = decimals::decimal(value_in(r, KRN));
+    group * 10 + revision
+}
+
+// Question 17: the register that holds the card's SGC and KRN, else the lowest free one.
+pub fn store_place(keys: [u64; 32], m: usize, r: &[u8]) -> Place
+    requires { ⌜ (m ≤ 32) × (keyInForm (now r) ≡ true) ⌝ }
+    ensures { λ p. ⌜ ((R : List RegisterRow) → AreKeys (take m keys) R → placeOf p ≡ storePlace (groupIn (cardIn (now (r .entry)))) (revisionIn (cardIn (now (r .entry)))) R) ⌝ }
+{
+    let held = register_searches::key_place(keys, m, card_key(r));
     if let Place::At(k) = held {
         return Place::At(k);
     }
-    register_searches::vacant_place(registers, m)
+    register_searches::key_place(keys, m, 0)
 }
 
 // Whether the slot has a session: PENDING or LOADING.
@@ -133,9 +146,9 @@ pub fn has_session(r: SlotRow) -> bool
 }
 
 // Question 18: whether register n, counted from 1, is filled.
-pub fn is_filled(registers: [RegisterRow; 32], m: usize, n: usize) -> bool
+pub fn is_filled(keys: [u64; 32], m: usize, n: usize) -> bool
     requires { ⌜ m ≤ 32 ⌝ }
-    ensures { λ b. ⌜ b ≡ isFilled n (take m registers) ⌝ }
+    ensures { λ b. ⌜ ((R : List RegisterRow) → AreKeys (take m keys) R → b ≡ isFilled n R) ⌝ }
 {
     if n < 1 {
         return false;
@@ -143,6 +156,5 @@ pub fn is_filled(registers: [RegisterRow; 32], m: usize, n: usize) -> bool
     if m < n {
         return false;
     }
-    let row = registers[n - 1];
-    !register_rows::is_vacant(row)
+    keys[n - 1] != 0
 }

@@ -3,38 +3,43 @@ use command_questions::Asked;
 use engine::Decision;
 use engine::Refusal;
 use payloads::Count;
-use rows::RegisterRow;
 ghost use mathlib.Core.Path.{_≡_};
+ghost use mathlib.Core.List.{List};
 ghost use Prim.Native.Nat.{_≤_};
 ghost use lib.ListN.{take};
 ghost use Rattle.fields.specs.Values.{valuesOf};
 ghost use Rattle.commands.specs.declared.Command.the-variants.{KD, GA};
+ghost use Rattle.rows.specs.declared.RegisterRow.{RegisterRow};
+ghost use Rattle.row_index.specs.Found.{AreKeys};
 ghost use Rattle.engine.specs.Questions.{Call};
 ghost use Rattle.engine.specs.Decisions.{decisionFor};
 ghost use Rattle.command_questions.specs.CommandQuestions.{registerAsked};
 
 // The register that the only field numbers, counted from 1.
-fn ask_register(registers: [RegisterRow; 32], m: usize, payload: &[u8]) -> Asked
+fn ask_register(keys: [u64; 32], m: usize, payload: &[u8]) -> Asked
     requires { ⌜ m ≤ 32 ⌝ }
-    ensures { λ a. ⌜ a ≡ registerAsked (take m registers) (valuesOf (now (payload .entry))) ⌝ }
+    ensures { λ a. ⌜ ((R : List RegisterRow) → AreKeys (take m keys) R → a ≡ registerAsked R (valuesOf (now (payload .entry)))) ⌝ }
 {
     let f = payloads::one_number(payload);
     let Count::Is(v) = f else {
         return Asked::No(Refusal::BadFields);
     };
     let n = v as usize;
-    if !record_tests::is_filled(registers, m, n) {
+    if n < 1 {
+        return Asked::No(Refusal::EmptyRegister);
+    }
+    if !record_tests::is_filled(keys, m, n) {
         return Asked::No(Refusal::EmptyRegister);
     }
     Asked::At(n - 1)
 }
 
 // SM?KD.
-pub fn decide_clear(registers: [RegisterRow; 32], m: usize, payload: &[u8]) -> Decision
+pub fn decide_clear(keys: [u64; 32], m: usize, payload: &[u8]) -> Decision
     requires { ⌜ m ≤ 32 ⌝ }
-    ensures { λ d. ⌜ ((c : Call) → c .registers ≡ take m registers → d ≡ decisionFor c KD (valuesOf (now (payload .entry)))) ⌝ }
+    ensures { λ d. ⌜ ((c : Call) → AreKeys (take m keys) (c .registers) → d ≡ decisionFor c KD (valuesOf (now (payload .entry)))) ⌝ }
 {
-    let asked = ask_register(registers, m, payload);
+    let asked = ask_register(keys, m, payload);
     match asked {
         Asked::No(r) => Decision::Refuse(r),
         Asked::At(k) => Decision::Clear(k),
@@ -42,11 +47,11 @@ pub fn decide_clear(registers: [RegisterRow; 32], m: usize, payload: &[u8]) -> D
 }
 
 // SM?GA.
-pub fn decide_show(registers: [RegisterRow; 32], m: usize, payload: &[u8]) -> Decision
+pub fn decide_show(keys: [u64; 32], m: usize, payload: &[u8]) -> Decision
     requires { ⌜ m ≤ 32 ⌝ }
-    ensures { λ d. ⌜ ((c : Call) → c .registers ≡ take m registers → d ≡ decisionFor c GA (valuesOf (now (payload .entry)))) ⌝ }
+    ensures { λ d. ⌜ ((c : Call) → AreKeys (take m keys) (c .registers) → d ≡ decisionFor c GA (valuesOf (now (payload .entry)))) ⌝ }
 {
-    let asked = ask_register(registers, m, payload);
+    let asked = ask_register(keys, m, payload);
     match asked {
         Asked::No(r) => Decision::Refuse(r),
         Asked::At(k) => Decision::Show(k),

@@ -11,6 +11,7 @@ use Rattle.rows.specs.Lists.{someRow}
 use Rattle.rows.specs.Registers.{isRegisterSound}
 use Rattle.rows.specs.Index.{isCalled, isOwnedBy}
 use Rattle.rows.specs.declared.RegisterRow.{RegisterRow}
+use Rattle.row_index.specs.Found.{numberOf}
 
 -- a card as stored whose KSL is one of the names
 unfoldable pub isCardOwned : List (List ℕ) → List ℕ → Bool
@@ -19,6 +20,10 @@ isCardOwned names card = isStored card && someRow (isCalled (orElse (valueOf KSL
 -- SGC and KRN of a card as one number
 unfoldable pub cardNumber : List ℕ → ℕ
 cardNumber card = decimal (take 10 (orElse (valueOf SGC card) [])) * 10 + decimal (take 1 (orElse (valueOf KRN card) []))
+
+-- the number of the name that is the card's KSL
+unfoldable pub cardOwner : List (List ℕ) → List ℕ → ℕ
+cardOwner names card = numberOf (isCalled (orElse (valueOf KSL card) [])) names
 
 -- a row that is sound by itself, and free or owned by one of the names
 unfoldable pub isSoundUnder : List (List ℕ) → RegisterRow → Bool

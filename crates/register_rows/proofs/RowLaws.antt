@@ -10,16 +10,13 @@ use Rattle.text.specs.declared.Class.the-variants.{Zero}
 use Rattle.rows.specs.Registers.{isVacant}
 use Rattle.rows.specs.declared.RegisterRow.{RegisterRow}
 
-first-other : (s : List ℕ) → (getD s 0 0 ≡ 0 → ⊥) → false ≡ areAll Zero s
+-- is_clear
+pub first-other : (s : List ℕ) → (getD s 0 0 ≡ 0 → ⊥) → false ≡ areAll Zero s
 unfolding areAll
 first-other [] o = absurd (o refl)
 first-other (b ∷ bs) o = sym (rw (ne-eqb b 0 o))
 
-module _ (r : RegisterRow) where
-  pub starts-filled : (getD (r .card) 0 0 ≡ 0 → ⊥) → false ≡ isVacant r
-  unfolding isVacant
-  starts-filled o = first-other (r .card) o
-
-  pub all-tested : (b : Bool) → b ≡ areAll Zero (r .card) → b ≡ isVacant r
-  unfolding isVacant
-  all-tested b p = p
+-- is_vacant
+pub all-tested : (r : RegisterRow) (b : Bool) → b ≡ areAll Zero (r .card) → b ≡ isVacant r
+unfolding isVacant
+all-tested r b p = p

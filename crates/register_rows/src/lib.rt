@@ -1,16 +1,25 @@
 // One register row (document 01, "Slots and registers"): whether it is free, and a free row.
 use rows::RegisterRow;
 ghost use mathlib.Core.Path.{_≡_};
+ghost use Rattle.text.specs.Classes.{areAll};
+ghost use Rattle.text.specs.declared.Class.the-variants.{Zero};
 ghost use Rattle.rows.specs.Registers.{isVacant, freeRegister};
 
-// Whether the row is free. A card starts with a letter, so the first byte mostly tells.
+// Whether every byte of a card's space is zero. A card starts with a letter, so the first byte mostly tells.
+pub fn is_clear(card: &[u8; 256]) -> bool
+    ensures { λ a. ⌜ a ≡ areAll Zero (now (card .entry)) ⌝ }
+{
+    if card[0] != 0 {
+        return false;
+    }
+    text::are_zeros(card)
+}
+
+// Whether the row is free.
 pub fn is_vacant(r: RegisterRow) -> bool
     ensures { λ a. ⌜ a ≡ isVacant r ⌝ }
 {
-    if r.card[0] != 0 {
-        return false;
-    }
-    text::are_zeros(&r.card)
+    is_clear(&r.card)
 }
 
 // A free row.

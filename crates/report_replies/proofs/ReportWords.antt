@@ -11,14 +11,12 @@ use Rattle.fields.specs.Values.{string}
 use Rattle.frames.specs.Frames.{headerOf}
 use Rattle.responses.specs.Responses.{responseBytes}
 use Rattle.rows.specs.Lists.{trimmed}
-use Rattle.rows.specs.Reports.{storedIn}
-use Rattle.rows.specs.declared.RegisterRow.{RegisterRow}
 use Rattle.engine.specs.Answers.{accepted}
 use Rattle.session_replies.proofs.ReplyWords.{five}
 
 -- under the header h of the request q
 module _ (q h : List ℕ) (e : h ≡ headerOf q) (m : ℕ) (l : 10 ≤ length q) (r : 1024 ≤ m) where
-  pub card-fits : (v card : List ℕ) → v ≡ trimmed card → length card ≡ 256 → length h + 2 + length v + 7 ≤ m
+  pub card-fits : (v card : List ℕ) → v ≡ trimmed card → length card ≤ 256 → length h + 2 + length v + 7 ≤ m
   unfolding trimmed
   card-fits v card p z = rw p (omega (arith, five q h e l, take-le (run (isNot 0) card) card))
 
@@ -28,7 +26,7 @@ module _ (q h : List ℕ) (e : h ≡ headerOf q) (m : ℕ) (l : 10 ≤ length q)
   pub query-fits : length h + 514 ≤ m
   query-fits = omega (arith, five q h e l)
 
--- the card v that was written is the row's
-pub card-written : (q h : List ℕ) (e : h ≡ headerOf q) (row : RegisterRow) (v : List ℕ) → v ≡ trimmed (row .card) → {a b : List ℕ} {n : ℕ} → Wrote a 0 (responseBytes h accepted (string v ∷ [])) b n
-    → Wrote a 0 (responseBytes (headerOf q) accepted (string (storedIn row) ∷ [])) b n
-card-written q h e row v p w = rw (← e, ← p) w
+-- the card v that was written is the one lent
+pub card-written : (q h : List ℕ) (e : h ≡ headerOf q) (card v : List ℕ) → v ≡ trimmed card → {a b : List ℕ} {n : ℕ} → Wrote a 0 (responseBytes h accepted (string v ∷ [])) b n
+    → Wrote a 0 (responseBytes (headerOf q) accepted (string (trimmed card) ∷ [])) b n
+card-written q h e card v p w = rw (← e, ← p) w

@@ -1,25 +1,25 @@
 // The responses of the three commands that only read rows: SM?GA, SM?GL and SM?KQ (001 clauses 6.3.8, 6.3.1 and 6.3.2).
-use rows::RegisterRow;
 use rows::SlotRow;
-ghost use mathlib.Core.List.{[], _∷_};
+ghost use mathlib.Core.List.{[], _∷_, _++_};
 ghost use Prim.Native.Nat.{_≤_};
 ghost use lib.ListN.{length, take};
 ghost use Rattle.octets.specs.Wrote.{Wrote};
 ghost use Rattle.fields.specs.Values.{string};
 ghost use Rattle.frames.specs.Frames.{headerOf};
 ghost use Rattle.responses.specs.Responses.{responseBytes};
-ghost use Rattle.rows.specs.Reports.{storedIn, slotNames, nameFields, queryFields};
+ghost use Rattle.rows.specs.Lists.{trimmed, numbersFrom};
+ghost use Rattle.rows.specs.Reports.{slotNames, nameFields, slotFields, numberFields};
+ghost use Rattle.row_index.specs.Found.{isThe};
 ghost use Rattle.engine.specs.Answers.{accepted};
 ghost use Rattle.session_replies.specs.Room.{HasRoom};
 
-// The response to SM?GA, and its length: the stored card.
-pub fn respond_card(row: RegisterRow, request: &[u8], response: &mut [u8]) -> usize
-    requires { ⌜ HasRoom (length (now request)) (length (now response)) ⌝ }
-    ensures { λ n. ⌜ Wrote (now (response .entry)) 0 (responseBytes (headerOf (now (request .entry))) accepted (string (storedIn row) ∷ [])) (now (response .exit)) n ⌝ }
+// The response to SM?GA, and its length: the stored card, without the zeros after it.
+pub fn respond_card(card: &[u8], request: &[u8], response: &mut [u8]) -> usize
+    requires { ⌜ (length (now card) ≤ 256) × HasRoom (length (now request)) (length (now response)) ⌝ }
+    ensures { λ n. ⌜ Wrote (now (response .entry)) 0 (responseBytes (headerOf (now (request .entry))) accepted (string (trimmed (now (card .entry))) ∷ [])) (now (response .exit)) n ⌝ }
     ensures fits { λ n. ⌜ n ≤ length (now (response .entry)) ⌝ }
 {
-    let card = row.card;
-    let shown = slot_tests::trimmed(&card);
+    let shown = slot_tests::trimmed(card);
     replies::reply_text(response, frames::header(request), b"00", shown)
 }
 
@@ -32,17 +32,18 @@ pub fn respond_names(slots: [SlotRow; 8], n: usize, request: &[u8], response: &m
     slot_lists::reply_names(response, frames::header(request), slots, n)
 }
 
-// The response to SM?KQ, and its length: what is told of a slot and of the registers with its keys.
+// The response to SM?KQ, and its length: what is told of a slot, and the numbers of the registers that it owns.
 pub fn respond_query(
     row: SlotRow,
-    registers: [RegisterRow; 32],
+    owners: [usize; 32],
     m: usize,
+    slot: usize,
     request: &[u8],
     response: &mut [u8],
 ) -> usize
     requires { ⌜ (m ≤ 32) × HasRoom (length (now request)) (length (now response)) ⌝ }
-    ensures { λ n. ⌜ Wrote (now (response .entry)) 0 (responseBytes (headerOf (now (request .entry))) accepted (queryFields row (take m registers))) (now (response .exit)) n ⌝ }
+    ensures { λ n. ⌜ Wrote (now (response .entry)) 0 (responseBytes (headerOf (now (request .entry))) accepted (slotFields row ++ numberFields (numbersFrom (isThe slot) 1 (take m owners)))) (now (response .exit)) n ⌝ }
     ensures fits { λ n. ⌜ n ≤ length (now (response .entry)) ⌝ }
 {
-    slot_queries::reply_query(response, frames::header(request), row, registers, m)
+    slot_queries::reply_query(response, frames::header(request), row, owners, m, slot)
 }

@@ -1,26 +1,33 @@
 -- What each arm requires is known of its decision, and what it wrote is the decision's response.
-use mathlib.Core.Path.{_≡_, refl}
+use mathlib.Core.Path.{_≡_, refl, sym, _∙_}
 use mathlib.Core.Bool.{true}
-use mathlib.Core.List.{List, [], _∷_}
-use Prim.Native.Nat.{ℕ, _*_, _^_, _≤_, _<_}
+use mathlib.Core.List.{List, [], _∷_, _++_}
+use Prim.Native.Nat.{ℕ, _+_, _*_, _^_, _≤_, _<_}
 use native.Mathlib.Omega.{arith}
 use types.Run.{OneOf, miss}
 use denote.Enum.Declared.{tagOf}
-use lib.ListN.{length, getD}
+use lib.ListN.{length, getD, take, length-map, List·getD-map}
+use lib.Seq.{length-take-le}
 use Rattle.octets.specs.Wrote.{Wrote}
-use Rattle.fields.specs.Values.{string}
+use Rattle.fields.specs.Values.{number, string}
 use Rattle.frames.specs.Frames.{headerOf}
 use Rattle.responses.specs.Responses.{responseBytes}
-use Rattle.commands.specs.declared.Command.the-variants.{KF, KL}
-use Rattle.rows.specs.Places.{registerRows}
+use Rattle.commands.specs.declared.Command.the-variants.{KF}
+use Rattle.rows.specs.Lists.{trimmed, numbersFrom}
 use Rattle.rows.specs.Slots.{freeSlot}
-use Rattle.rows.specs.Registers.{freeRegister}
-use Rattle.rows.specs.Reports.{storedIn, queryFields}
+use Rattle.rows.specs.Slots as slot
+use Rattle.rows.specs.Registers.{isUnder, freeRegister}
+use Rattle.rows.specs.Reports.{slotFields, numberFields, queryFields}
 use Rattle.rows.specs.declared.SlotRow.{SlotRow}
 use Rattle.rows.specs.declared.RegisterRow.{RegisterRow}
+use Rattle.card_writer.specs.declared.Stored.{Stored}
 use Rattle.rows.specs.declared.Supplement.{Supplement}
 use Rattle.rows.specs.declared.Tables.{Tables}
 use Rattle.rows.proofs.PlaceCounts.{getD-any}
+use Rattle.row_index.specs.Found.{isThe, AreOwnedBy}
+use Rattle.row_index.specs.Lent.{rowWith, rowsWith, tablesWith}
+use Rattle.row_index.proofs.LentLaws.{take-short}
+use Rattle.row_index.proofs.NumberLaws.{same-numbers}
 use Rattle.refusals.specs.Tellings.{CanTell}
 use Rattle.engine.specs.Requests.{fieldsIn, areFieldsOf}
 use Rattle.engine.specs.Refusals.{refusal}
@@ -65,18 +72,18 @@ abbrev plainOnes : List ℕ
 plainOnes = 1 ∷ 5 ∷ 6 ∷ 7 ∷ []
 
 module _ (t : Tables) (x : Supplement) (q : List ℕ) where
-  pub plain-room : (d : Decision) (m : ℕ) → CanRespond d t x q m → OneOf plainOnes (tagOf the-type d) → HasRoom (length q) m
-  plain-room (Refuse r) m h o = absurd (miss plainOnes 0 tt o)
-  plain-room Reset m h o = h
-  plain-room (Pend k) m h o = h .0
-  plain-room (Open k) m h o = h .0
-  plain-room (Load k) m h o = h .0
-  plain-room (Finish k) m h o = h
-  plain-room (Delete k) m h o = h
-  plain-room (Clear k) m h o = h
-  plain-room (Show k) m h o = h .0
-  plain-room Enumerate m h o = h .0
-  plain-room (Query k) m h o = h .0
+  pub plain-room : (d : Decision) (owners : List ℕ) (c : Stored) (m : ℕ) → CanRespond d t owners c x q m → OneOf plainOnes (tagOf the-type d) → HasRoom (length q) m
+  plain-room (Refuse r) owners c m h o = absurd (miss plainOnes 0 tt o)
+  plain-room Reset owners c m h o = h
+  plain-room (Pend k) owners c m h o = h .0
+  plain-room (Open k) owners c m h o = h .0
+  plain-room (Load k) owners c m h o = h .0
+  plain-room (Finish k) owners c m h o = h
+  plain-room (Delete k) owners c m h o = h
+  plain-room (Clear k) owners c m h o = h
+  plain-room (Show k) owners c m h o = h .0
+  plain-room Enumerate owners c m h o = h .0
+  plain-room (Query k) owners c m h o = h .0
 
   pub plain-arm : {a b : List ℕ} {n : ℕ} (d : Decision) → OneOf plainOnes (tagOf the-type d) → Wrote a 0 (responseBytes (headerOf q) accepted []) b n → Wrote a 0 (responseFor d t x q) b n
   plain-arm (Refuse r) o w = absurd (miss plainOnes 0 tt o)
@@ -92,13 +99,13 @@ module _ (t : Tables) (x : Supplement) (q : List ℕ) where
   plain-arm (Query k) o w = absurd (miss plainOnes 10 tt o)
 
 -- what an arm requires is known of its decision
-module _ (d : Decision) (t : Tables) (x : Supplement) (q : List ℕ) (m : ℕ) (h : CanRespond d t x q m) where
-  pub refuse-room : (r : Refusal) → d ≡ Refuse r → CanTell (refusal r .header) (length q) m
+module _ (d : Decision) (slots : List SlotRow) (n : ℕ) (rows : List RegisterRow) (m : ℕ) (owners : List ℕ) (c : Stored) (x : Supplement) (q : List ℕ) (room : ℕ) (h : CanRespond d (tablesWith slots n rows m) owners c x q room) where
+  pub refuse-room : (r : Refusal) → d ≡ Refuse r → CanTell (refusal r .header) (length q) room
   refuse-room r p = rw p at h
 
   module _ (k : ℕ) where
     module _ (p : d ≡ Pend k) where
-      pub pend-room : HasRoom (length q) m
+      pub pend-room : HasRoom (length q) room
       pend-room = (rw p at h) .0
 
       pub pend-fields : areFieldsOf KF (fieldsIn q) ≡ true
@@ -111,7 +118,7 @@ module _ (d : Decision) (t : Tables) (x : Supplement) (q : List ℕ) (m : ℕ) (
       pend-request = (rw p at h) .1 .1 .1
 
     module _ (p : d ≡ Open k) where
-      pub open-room : HasRoom (length q) m
+      pub open-room : HasRoom (length q) room
       open-room = (rw p at h) .0
 
       pub open-fields : areFieldsOf KF (fieldsIn q) ≡ true
@@ -121,31 +128,44 @@ module _ (d : Decision) (t : Tables) (x : Supplement) (q : List ℕ) (m : ℕ) (
       open-kmcid = (rw p at h) .1 .1
 
     module _ (p : d ≡ Load k) where
-      pub load-room : HasRoom (length q) m
+      pub load-room : HasRoom (length q) room
       load-room = (rw p at h) .0
 
-      pub load-fields : areFieldsOf KL (fieldsIn q) ≡ true
-      load-fields = (rw p at h) .1 .0
-
-      pub load-card : length (cardOf x (fieldsIn q)) ≤ 256
-      load-card = (rw p at h) .1 .1 .0
+      pub load-long : c .length ≤ 256
+      load-long = (rw p at h) .1 .0
 
       pub load-place : k < 32
       load-place = (rw p at h) .1 .1 .1
 
+      pub load-card : take (c .length) (c .card) ≡ cardOf x (fieldsIn q)
+      load-card = (rw p at h) .1 .1 .0
+
+      -- what is lent of the card's space
+      pub load-front : length (c .card) ≡ 256 → c .length ≡ length (take (c .length) (c .card))
+      load-front z = let l = load-long in sym (length-take-le (c .length) (c .card) (omega arith))
+
+      pub load-part : length (c .card) ≡ 256 → c .length ≤ length (c .card)
+      load-part z = let l = load-long in omega arith
+
+      pub load-short : length (take (c .length) (c .card)) ≤ 256
+      load-short = let l = load-long in omega (arith, take-short (c .length) (c .card))
+
     module _ (p : d ≡ Show k) where
-      pub show-room : HasRoom (length q) m
+      pub show-room : HasRoom (length q) room
       show-room = (rw p at h) .0
 
       pub show-place : k < 32
       show-place = (rw p at h) .1
 
-      -- a register row has 256 bytes
+      pub show-in : (l : ℕ) → l ≡ 32 → k < l
+      show-in l z = let g = show-place in omega arith
+
+      -- a card has 256 bytes
       pub show-fits : k * 256 < 2 ^ 64
       show-fits = let g = show-place in omega arith
 
     module _ (p : d ≡ Query k) where
-      pub query-room : HasRoom (length q) m
+      pub query-room : HasRoom (length q) room
       query-room = (rw p at h) .0
 
       pub query-place : k < 8
@@ -155,20 +175,40 @@ module _ (d : Decision) (t : Tables) (x : Supplement) (q : List ℕ) (m : ℕ) (
       pub query-fits : k * 73 < 2 ^ 64
       query-fits = let g = query-place in omega arith
 
-      pub query-count : t .«register_count» ≤ 32
-      query-count = (rw p at h) .1 .1
+      pub query-sum : (j : ℕ) → j ≤ 8 → k + j < 2 ^ 64
+      query-sum j l = let g = query-place in omega arith
+
+      pub query-count : m ≤ 32
+      query-count = (rw p at h) .1 .1 .0
+
+      pub query-owned : AreOwnedBy (k + 1) (slot.kmcidOf (getD slots k freeSlot)) (take m owners) (take m rows)
+      query-owned = (rw p at h) .1 .1 .1
 
   module _ (p : d ≡ Enumerate) where
-    pub enumerate-room : HasRoom (length q) m
+    pub enumerate-room : HasRoom (length q) room
     enumerate-room = (rw p at h) .0
 
-    pub enumerate-count : t .«slot_count» ≤ 8
+    pub enumerate-count : n ≤ 8
     enumerate-count = (rw p at h) .1
 
--- the row at a place, whatever stands beyond the places
-module _ {a b : List ℕ} {n : ℕ} (d : Decision) (t : Tables) (x : Supplement) (q : List ℕ) (k : ℕ) where
-  pub show-written : d ≡ Show k → length (t .registers) ≡ 32 → k < 32 → (y : RegisterRow) → Wrote a 0 (responseBytes (headerOf q) accepted (string (storedIn (getD (t .registers) k y)) ∷ [])) b n → Wrote a 0 (responseFor d t x q) b n
-  show-written p z h y w = rw (p, getD-any (t .registers) k freeRegister y (omega arith)) w
+-- the card at a place, as a row
+card-at : (cards : List (List ℕ)) (k : ℕ) → k < length cards → (y : List ℕ) (r : RegisterRow) → getD (rowsWith cards) k r ≡ rowWith (getD cards k y)
+card-at cards k h y r = getD-any (rowsWith cards) k r (rowWith y) (rw (length-map cards rowWith) h) ∙ List·getD-map rowWith cards k y
 
-  pub query-written : d ≡ Query k → length (t .slots) ≡ 8 → k < 8 → (y : SlotRow) → Wrote a 0 (responseBytes (headerOf q) accepted (queryFields (getD (t .slots) k y) (registerRows t))) b n → Wrote a 0 (responseFor d t x q) b n
-  query-written p z h y w = rw (p, getD-any (t .slots) k freeSlot y (omega arith)) w
+-- what was written of a card or a row at a place is the decision's response, whatever stands beyond the places
+module _ {a b : List ℕ} {j : ℕ} (d : Decision) (slots : List SlotRow) (n m : ℕ) (x : Supplement) (q : List ℕ) (k : ℕ) where
+  pub load-written : (t : Tables) (card : List ℕ) → d ≡ Load k → card ≡ cardOf x (fieldsIn q) → Wrote a 0 (responseBytes (headerOf q) accepted (number (k + 1) ∷ string card ∷ [])) b j → Wrote a 0 (responseFor d t x q) b j
+  load-written t card p e w = rw p (rw e at w)
+
+  pub show-written : (cards : List (List ℕ)) (y : List ℕ) → d ≡ Show k → length cards ≡ 32 → k < 32 → Wrote a 0 (responseBytes (headerOf q) accepted (string (trimmed (getD cards k y)) ∷ [])) b j
+      → Wrote a 0 (responseFor d (tablesWith slots n (rowsWith cards) m) x q) b j
+  show-written cards y p z h w = rw (p, card-at cards k (omega arith) y freeRegister) w
+
+  pub query-written : (rows : List RegisterRow) (owners : List ℕ) (y : SlotRow) → d ≡ Query k → length slots ≡ 8 → k < 8
+      → AreOwnedBy (k + 1) (slot.kmcidOf (getD slots k freeSlot)) (take m owners) (take m rows)
+      → Wrote a 0 (responseBytes (headerOf q) accepted (slotFields (getD slots k y) ++ numberFields (numbersFrom (isThe (k + 1)) 1 (take m owners)))) b j
+      → Wrote a 0 (responseFor d (tablesWith slots n rows m) x q) b j
+  unfolding queryFields
+  query-written rows owners y p z h o w =
+      let e = same-numbers (isThe (k + 1)) (isUnder (slot.kmcidOf (getD slots k freeSlot))) 1 (take m owners) (take m rows) o in
+      rw p (rw (e, getD-any slots k y freeSlot (omega arith)) at w)

@@ -1,13 +1,15 @@
 // The outcome and the response of a decision (document 01, "Questions in order"; 001 clause 5.3).
+use card_writer::Stored;
 use engine::Decision;
 use engine::Outcome;
+use rows::SlotRow;
 use rows::SlotState;
 use rows::Supplement;
-use rows::Tables;
 ghost use mathlib.Core.Path.{_≡_};
 ghost use Prim.Native.Nat.{_≤_};
 ghost use lib.ListN.{length};
 ghost use Rattle.octets.specs.Wrote.{Wrote};
+ghost use Rattle.row_index.specs.Lent.{rowsWith, tablesWith};
 ghost use Rattle.responding.specs.Responding.{outcomeFor, responseFor, CanRespond};
 
 // The outcome of a decision.
@@ -29,31 +31,39 @@ pub fn outcome(d: Decision) -> Outcome
     }
 }
 
-// The response of a decision, and its length.
-pub fn respond(d: Decision, t: Tables, x: Supplement, request: &[u8], response: &mut [u8]) -> usize
-    requires { ⌜ CanRespond d t x (now request) (length (now response)) ⌝ }
-    ensures { λ n. ⌜ Wrote (now (response .entry)) 0 (responseFor d t x (now (request .entry))) (now (response .exit)) n ⌝ }
-    ensures fits { λ n. ⌜ n ≤ length (now (response .entry)) ⌝ }
+// The response of a decision, and its length: over the slot rows and the cards, with the number of each register's owner.
+pub fn respond(
+    d: Decision,
+    slots: [SlotRow; 8],
+    n: usize,
+    cards: &[[u8; 256]],
+    m: usize,
+    owners: [usize; 32],
+    stored: Stored,
+    x: Supplement,
+    request: &[u8],
+    response: &mut [u8],
+) -> usize
+    requires { ⌜ (length (now cards) ≡ 32) × CanRespond d (tablesWith slots n (rowsWith (now cards)) m) owners stored x (now request) (length (now response)) ⌝ }
+    ensures { λ k. ⌜ Wrote (now (response .entry)) 0 (responseFor d (tablesWith slots n (rowsWith (now (cards .entry))) m) x (now (request .entry))) (now (response .exit)) k ⌝ }
+    ensures fits { λ k. ⌜ k ≤ length (now (response .entry)) ⌝ }
 {
-    let slots = t.slots;
-    let registers = t.registers;
     match d {
         Decision::Refuse(r) => refusals::refuse(response, request, r),
         Decision::Pend(_) => session_replies::respond_pending(x, request, response),
         Decision::Open(_) => session_replies::respond_open(request, response),
-        Decision::Load(k) => session_replies::respond_load(k, x, request, response),
+        Decision::Load(k) => {
+            let n = stored.length;
+            let card = stored.card;
+            session_replies::respond_load(k, &card[..n], request, response)
+        }
         Decision::Reset | Decision::Finish(_) | Decision::Delete(_) | Decision::Clear(_) => {
             session_replies::respond_plainly(request, response)
         }
-        Decision::Show(k) => report_replies::respond_card(registers[k], request, response),
-        Decision::Enumerate => report_replies::respond_names(
-            slots,
-            t.slot_count,
-            request,
-            response,
-        ),
+        Decision::Show(k) => report_replies::respond_card(&cards[k], request, response),
+        Decision::Enumerate => report_replies::respond_names(slots, n, request, response),
         Decision::Query(k) => {
-            report_replies::respond_query(slots[k], registers, t.register_count, request, response)
+            report_replies::respond_query(slots[k], owners, m, k + 1, request, response)
         }
     }
 }

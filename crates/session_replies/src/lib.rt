@@ -9,11 +9,11 @@ ghost use Rattle.octets.specs.Wrote.{Wrote};
 ghost use Rattle.fields.specs.Values.{number, string};
 ghost use Rattle.frames.specs.Frames.{headerOf};
 ghost use Rattle.responses.specs.Responses.{responseBytes};
-ghost use Rattle.commands.specs.declared.Command.the-variants.{KF, KL};
+ghost use Rattle.commands.specs.declared.Command.the-variants.{KF};
 ghost use Rattle.rows.specs.Supplements.{loadRequest};
 ghost use Rattle.engine.specs.Requests.{fieldsIn, areFieldsOf};
 ghost use Rattle.engine.specs.Answers.{accepted};
-ghost use Rattle.request_parts.specs.Parts.{kmcidOf, cardOf};
+ghost use Rattle.request_parts.specs.Parts.{kmcidOf};
 ghost use Rattle.session_replies.specs.Room.{HasRoom};
 
 // Accepts a request whose response has no fields, and answers its length.
@@ -48,19 +48,10 @@ pub fn respond_open(request: &[u8], response: &mut [u8]) -> usize
 }
 
 // The response to SM?KL, and its length: the number of the register, counted from 1, and the stored card.
-pub fn respond_load(k: usize, x: Supplement, request: &[u8], response: &mut [u8]) -> usize
-    requires { ⌜ HasRoom (length (now request)) (length (now response)) × ((areFieldsOf KL (fieldsIn (now request)) ≡ true) × ((length (cardOf x (fieldsIn (now request))) ≤ 256) × (k < 32))) ⌝ }
-    ensures { λ n. ⌜ Wrote (now (response .entry)) 0 (responseBytes (headerOf (now (request .entry))) accepted (number (k + 1) ∷ string (cardOf x (fieldsIn (now (request .entry)))) ∷ [])) (now (response .exit)) n ⌝ }
+pub fn respond_load(k: usize, card: &[u8], request: &[u8], response: &mut [u8]) -> usize
+    requires { ⌜ HasRoom (length (now request)) (length (now response)) × ((length (now card) ≤ 256) × (k < 32)) ⌝ }
+    ensures { λ n. ⌜ Wrote (now (response .entry)) 0 (responseBytes (headerOf (now (request .entry))) accepted (number (k + 1) ∷ string (now (card .entry)) ∷ [])) (now (response .exit)) n ⌝ }
     ensures fits { λ n. ⌜ n ≤ length (now (response .entry)) ⌝ }
 {
-    let s = request_parts::loaded_card(frames::payload(request), x);
-    let n = s.length;
-    let card = s.card;
-    replies::reply_number_text(
-        response,
-        frames::header(request),
-        b"00",
-        k as u32 + 1,
-        &card[..n],
-    )
+    replies::reply_number_text(response, frames::header(request), b"00", k as u32 + 1, card)
 }

@@ -1,7 +1,8 @@
-// The slots' names as they are kept, zeros after them (document 01, "Slots and registers"): which of them s is, and whether no two are one.
+// The slots' names as they are kept, zeros after them (document 01, "Slots and registers"): the number of the one that s is, and whether no two are one.
 ghost use mathlib.Core.Path.{_≡_};
-ghost use Rattle.rows.specs.Lists.{someRow, distinctRows};
+ghost use Rattle.rows.specs.Lists.{distinctRows};
 ghost use Rattle.rows.specs.Index.{isCalled, isSameName};
+ghost use Rattle.row_index.specs.Found.{numberOf};
 
 // Whether a kept name is s. Names mostly differ in their last byte, so that is compared before the name's end is looked for.
 pub fn is_called(name: &[u8], s: &[u8]) -> bool
@@ -20,18 +21,18 @@ pub fn is_called(name: &[u8], s: &[u8]) -> bool
     octets::same_bytes(slot_tests::trimmed(name), s)
 }
 
-// Whether s is one of the names.
-pub fn is_one_of(names: &[[u8; 40]], s: &[u8]) -> bool
-    ensures { λ b. ⌜ b ≡ someRow (isCalled (now (s .entry))) (now (names .entry)) ⌝ }
+// The number of the name that is s, counted from 1; 0 where none is.
+pub fn number_of(names: &[[u8; 40]], s: &[u8]) -> usize
+    ensures { λ k. ⌜ k ≡ numberOf (isCalled (now (s .entry))) (now (names .entry)) ⌝ }
 {
     let mut i = 0;
     while i < names.len() {
         if is_called(&names[i], s) {
-            return true;
+            return i + 1;
         }
         i += 1;
     }
-    false
+    0
 }
 
 // Whether no two names are one.

@@ -1,5 +1,1 @@
-pub mod Readings
-pub mod NameLaws
-pub mod StoredValues
-pub mod KeyLaws
 pub mod SoundLaws

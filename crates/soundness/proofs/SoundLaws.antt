@@ -15,9 +15,10 @@ use Rattle.rows.specs.Index.{keptName, isSameName, isOwnedBy, keyNumber, isSame
 use Rattle.rows.specs.Sound.{isOwned, areSound}
 use Rattle.rows.specs.declared.SlotRow.{SlotRow}
 use Rattle.rows.specs.declared.RegisterRow.{RegisterRow}
+use Rattle.row_index.specs.Found.{ownerNumber}
 use Rattle.register_keys.specs.Judged.{isSoundUnder}
-use Rattle.soundness.proofs.NameLaws.{distinct-names, every-owned}
-use Rattle.soundness.proofs.KeyLaws.{distinct-keys}
+use Rattle.row_index.proofs.NameLaws.{distinct-names, every-owned}
+use Rattle.row_index.proofs.KeyLaws.{distinct-keys}
 
 -- what is read of the first rows is the first of what is read
 take-map : {A B : Type 0} (f : A → B) (n : ℕ) (l : List A) → take n (map f l) ≡ map f (take n l)
@@ -26,7 +27,7 @@ take-map f (suc n) [] = refl
 take-map {A} {B} f (suc n) (x ∷ xs) = ap (λ (r : List B). f x ∷ r) (take-map f n xs)
 
 -- of an array that a function filled
-filled-room : {A B : Type 0} (f : A → B) (l : List A) (k : List B) (n m : ℕ) → length l ≡ m → k ≡ map f l → n ≤ m → n ≤ length k
+pub filled-room : {A B : Type 0} (f : A → B) (l : List A) (k : List B) (n m : ℕ) → length l ≡ m → k ≡ map f l → n ≤ m → n ≤ length k
 filled-room f l k n m z e h = let y : length k ≡ length l = ap length e ∙ length-map l f in omega arith
 
 pub filled-front : {A B : Type 0} (f : A → B) (l : List A) (k : List B) (n m : ℕ) → length l ≡ m → k ≡ map f l → n ≤ m → n ≡ length (take n k)
@@ -52,16 +53,10 @@ between-false true true c e = e
 between-false true false c e = refl
 between-false false b c e = refl
 
-module _ (slots : List SlotRow) (n : ℕ) (registers : List RegisterRow) (m : ℕ) (a : Bool) (p : a ≡ everyRow isSlotSound (take n slots)) where
-  abbrev S : List SlotRow
-  S = take n slots
-
-  abbrev R : List RegisterRow
-  R = take m registers
-
-  pub slots-unsound : not a ≡ true → false ≡ areSound (take n slots) (take m registers)
+module _ (slots : List SlotRow) (n : ℕ) (R : List RegisterRow) (a : Bool) (p : a ≡ everyRow isSlotSound (take n slots)) (f : Bool) where
+  pub slots-unsound : not a ≡ true → f ≡ false → f ≡ areSound (take n slots) R
   unfolding areSound
-  slots-unsound o = sym (rw (← p, not-true a o))
+  slots-unsound o g = g ∙ sym (rw (← p, not-true a o))
 
   module _ (o : not a ≡ false) (names : List (List ℕ)) (w : names ≡ map keptName slots) (b : Bool) (q : b ≡ distinctRows isSameName (take n names)) where
     sound-slots : everyRow isSlotSound (take n slots) ≡ true
@@ -73,38 +68,49 @@ module _ (slots : List SlotRow) (n : ℕ) (registers : List RegisterRow) (m : �
     names-judged : distinctRows isSameSlot (take n slots) ≡ b
     names-judged = distinct-names (take n slots) sound-slots ∙ ap (distinctRows isSameName) (sym first-names) ∙ sym q
 
-    pub names-alike : not b ≡ true → false ≡ areSound (take n slots) (take m registers)
+    pub names-alike : not b ≡ true → f ≡ false → f ≡ areSound (take n slots) R
     unfolding areSound
-    names-alike i = sym (rw (sound-slots, names-judged, not-true b i))
+    names-alike i g = g ∙ sym (rw (sound-slots, names-judged, not-true b i))
 
     -- c says whether each register is sound by itself and owned
-    module _ (i : not b ≡ false) (c : Bool) (r : c ≡ everyRow (isSoundUnder (take n names)) (take m registers)) where
-      owners-read : everyRow (isOwned (take n slots)) (take m registers) ≡ everyRow (isOwnedBy (take n names)) (take m registers)
-      owners-read = every-owned (take n slots) sound-slots (take m registers) ∙ ap (λ (l : List (List ℕ)). everyRow (isOwnedBy l) (take m registers)) (sym first-names)
+    module _ (i : not b ≡ false) (c : Bool) (r : c ≡ everyRow (isSoundUnder (take n names)) R) where
+      owners-read : everyRow (isOwned (take n slots)) R ≡ everyRow (isOwnedBy (take n names)) R
+      owners-read = every-owned (take n slots) sound-slots R ∙ ap (λ (l : List (List ℕ)). everyRow (isOwnedBy l) R) (sym first-names)
 
-      both-read : (everyRow isRegisterSound (take m registers) && everyRow (isOwned (take n slots)) (take m registers)) ≡ c
-      both-read = rw owners-read (sym (every-both (take n names) (take m registers)) ∙ sym r)
+      both-read : (everyRow isRegisterSound R && everyRow (isOwned (take n slots)) R) ≡ c
+      both-read = rw owners-read (sym (every-both (take n names) R) ∙ sym r)
 
-      pub registers-unsound : not c ≡ true → false ≡ areSound (take n slots) (take m registers)
+      pub registers-unsound : not c ≡ true → f ≡ false → f ≡ areSound (take n slots) R
       unfolding areSound
-      registers-unsound j =
-          let e = between-false (everyRow isRegisterSound (take m registers)) (distinctRows isSameKey (take m registers)) (everyRow (isOwned (take n slots)) (take m registers)) (both-read ∙ not-true c j) in
-          sym (rw (sound-slots, names-judged, not-false b i, e))
+      registers-unsound j g =
+          let e = between-false (everyRow isRegisterSound R) (distinctRows isSameKey R) (everyRow (isOwned (take n slots)) R) (both-read ∙ not-true c j) in
+          g ∙ sym (rw (sound-slots, names-judged, not-false b i, e))
 
-      module _ (j : not c ≡ false) (keys : List ℕ) (v : c ≡ true → take m keys ≡ map keyNumber (take m registers)) (d : Bool) (s : d ≡ distinctRows isSameNumber (take m keys)) where
-        both-true : (everyRow isRegisterSound (take m registers) && everyRow (isOwned (take n slots)) (take m registers)) ≡ true
+      module _ (j : not c ≡ false) (m : ℕ) (keys : List ℕ) (v : c ≡ true → take m keys ≡ map keyNumber R) (d : Bool) (s : d ≡ distinctRows isSameNumber (take m keys)) where
+        both-true : (everyRow isRegisterSound R && everyRow (isOwned (take n slots)) R) ≡ true
         both-true = both-read ∙ not-false c j
 
-        sound-registers : everyRow isRegisterSound (take m registers) ≡ true
-        sound-registers = and-first (everyRow isRegisterSound (take m registers)) _ both-true
+        sound-registers : everyRow isRegisterSound R ≡ true
+        sound-registers = and-first (everyRow isRegisterSound R) _ both-true
 
-        owned-registers : everyRow (isOwned (take n slots)) (take m registers) ≡ true
-        owned-registers = and-second (everyRow isRegisterSound (take m registers)) _ both-true
+        owned-registers : everyRow (isOwned (take n slots)) R ≡ true
+        owned-registers = and-second (everyRow isRegisterSound R) _ both-true
 
-        pub keys-judged : d ≡ areSound (take n slots) (take m registers)
+        keys-judged : d ≡ areSound (take n slots) R
         unfolding areSound
         keys-judged =
-            let k : distinctRows isSameKey (take m registers) ≡ d = distinct-keys (take m registers) sound-registers ∙ ap (distinctRows isSameNumber) (sym (v (not-false c j))) ∙ sym s in
+            let k : distinctRows isSameKey R ≡ d = distinct-keys R sound-registers ∙ ap (distinctRows isSameNumber) (sym (v (not-false c j))) ∙ sym s in
             sym (rw (sound-slots, names-judged, not-false b i, sound-registers, k, owned-registers, and-true d))
 
-pub ruleset soundCases = (slots-unsound, names-alike, registers-unsound, keys-judged)
+        pub keys-alike : not d ≡ true → f ≡ false → f ≡ areSound (take n slots) R
+        keys-alike y g = g ∙ sym (not-true d y) ∙ keys-judged
+
+        pub all-sound : not d ≡ false → c ≡ areSound (take n slots) R
+        all-sound y = not-false c j ∙ sym (not-false d y) ∙ keys-judged
+
+-- the owners are told by the names of the slot rows
+pub owners-named : (slots : List SlotRow) (n : ℕ) (R : List RegisterRow) (names : List (List ℕ)) → names ≡ map keptName slots → (c : Bool) (o : List ℕ) → (c ≡ true → o ≡ map (ownerNumber (take n names)) R)
+    → c ≡ true → o ≡ map (ownerNumber (map keptName (take n slots))) R
+owners-named slots n R names w c o u z = u z ∙ ap (λ (l : List (List ℕ)). map (ownerNumber l) R) (ap (take n) w ∙ take-map keptName n slots)
+
+pub ruleset unsoundCases = (slots-unsound, names-alike, registers-unsound, keys-alike)

@@ -1,27 +1,49 @@
-// Question 3 (document 01, "Questions in order"): whether the rows are sound. Rows that are sound by themselves are compared by their names and keys alone.
-use rows::RegisterRow;
+// Question 3 (document 01, "Questions in order"): whether the rows are sound. Rows that are sound by themselves are compared by their names and keys alone; what is found of the
+// registers serves the questions after it, so that no card is searched again.
+use register_keys::Findings;
 use rows::SlotRow;
 ghost use mathlib.Core.Path.{_≡_};
+ghost use mathlib.Core.Bool.{true, false};
+ghost use mathlib.Core.List.{map};
 ghost use Prim.Native.Nat.{_≤_};
-ghost use lib.ListN.{take};
+ghost use lib.ListN.{length, take};
 ghost use Rattle.rows.specs.Sound.{areSound};
+ghost use Rattle.rows.specs.Index.{keptName, keyNumber};
+ghost use Rattle.row_index.specs.Found.{ownerNumber};
+ghost use Rattle.row_index.specs.Lent.{rowsWith};
 
-// Whether the first n slot rows and the first m register rows are sound.
-pub fn are_rows_sound(slots: [SlotRow; 8], n: usize, registers: [RegisterRow; 32], m: usize) -> bool
-    requires { ⌜ (n ≤ 8) × (m ≤ 32) ⌝ }
-    ensures { λ b. ⌜ b ≡ areSound (take n slots) (take m registers) ⌝ }
+// Of rows that are not sound nothing is told.
+pub fn unsound() -> Findings
+    ensures { λ f. ⌜ f .sound ≡ false ⌝ }
+{
+    Findings {
+        sound: false,
+        keys: [0; 32],
+        owners: [0; 32],
+    }
+}
+
+// Whether the first n slot rows and the register rows with these cards are sound; and where they are, the keys of the registers and the numbers of their slots.
+pub fn find(slots: [SlotRow; 8], n: usize, cards: &[[u8; 256]]) -> Findings
+    requires { ⌜ (n ≤ 8) × (length (now cards) ≤ 32) ⌝ }
+    ensures { λ f. ⌜ f .sound ≡ areSound (take n slots) (rowsWith (now (cards .entry))) ⌝ }
+    ensures keys { λ f. ⌜ (f .sound ≡ true → take (length (now (cards .entry))) (f .keys) ≡ map keyNumber (rowsWith (now (cards .entry)))) ⌝ }
+    ensures owners { λ f. ⌜ (f .sound ≡ true → take (length (now (cards .entry))) (f .owners) ≡ map (ownerNumber (map keptName (take n slots))) (rowsWith (now (cards .entry)))) ⌝ }
 {
     if !slot_tables::are_slots_sound(slots, n) {
-        return false;
+        return unsound();
     }
     let names = slot_tables::names_of(slots);
     if !slot_names::are_names_distinct(&names[..n]) {
-        return false;
+        return unsound();
     }
-    let judged = register_keys::judge_registers(registers, m, &names[..n]);
+    let judged = register_keys::judge_registers(cards, &names[..n]);
     if !judged.sound {
-        return false;
+        return unsound();
     }
     let keys = judged.keys;
-    register_keys::are_keys_distinct(&keys[..m])
+    if !register_keys::are_keys_distinct(&keys[..cards.len()]) {
+        return unsound();
+    }
+    judged
 }

@@ -1,40 +1,28 @@
 // Which key may vend (document 01, "Slots and registers": "a register's key may vend exactly when its slot is IDLE").
-use attributes::KSL;
-use rows::Place;
-use rows::RegisterRow;
 use rows::SlotRow;
 use rows::SlotState;
 use rows::Tables;
 ghost use mathlib.Core.Path.{_≡_};
-ghost use mathlib.Core.Bool.{true};
-ghost use Prim.Native.Nat.{_≤_};
-ghost use lib.ListN.{take};
-ghost use Rattle.attributes.specs.Table.{KSL};
-ghost use Rattle.rows.specs.Slots.{hasState};
-ghost use Rattle.rows.specs.Registers.{attributeOf};
+ghost use Prim.Native.Nat.{_-_, _≤_};
+ghost use lib.ListN.{getD};
+ghost use Rattle.rows.specs.Slots.{hasState, freeSlot};
 ghost use Rattle.rows.specs.declared.SlotState.the-variants.{Idle};
-ghost use Rattle.engine.specs.Questions.{slotNamed, registerNumbered, isFilled};
 ghost use Rattle.engine.specs.Usable.{isUsable};
 
-// Whether the slot that a register's card names is IDLE.
-fn is_slot_idle(slots: [SlotRow; 8], n: usize, row: RegisterRow) -> bool
-    requires { ⌜ n ≤ 8 ⌝ }
-    ensures { λ b. ⌜ b ≡ hasState Idle (slotNamed (attributeOf KSL row) (take n slots)) ⌝ }
+// The number of a register's owner; 0 of a free register.
+fn owner_of(owners: [usize; 32], register: usize) -> usize
+    requires { ⌜ (1 ≤ register) × (register ≤ 32) ⌝ }
+    ensures { λ k. ⌜ k ≡ getD owners (register - 1) 0 ⌝ }
 {
-    let card = row.card;
-    let place = slot_tables::slot_place(slots, n, cards::value(&card, KSL));
-    let Place::At(k) = place else {
-        return false;
-    };
-    slot_tests::has_state(slots[k], SlotState::Idle)
+    owners[register - 1]
 }
 
-// Whether the slot of a register that is filled is IDLE.
-fn is_idle(slots: [SlotRow; 8], n: usize, registers: [RegisterRow; 32], m: usize, i: usize) -> bool
-    requires { ⌜ (n ≤ 8) × (m ≤ 32) × (isFilled i (take m registers) ≡ true) ⌝ }
-    ensures { λ b. ⌜ b ≡ hasState Idle (slotNamed (attributeOf KSL (registerNumbered i (take m registers))) (take n slots)) ⌝ }
+// Whether the slot with a number, counted from 1, is IDLE.
+fn is_idle(slots: [SlotRow; 8], number: usize) -> bool
+    requires { ⌜ (1 ≤ number) × (number ≤ 8) ⌝ }
+    ensures { λ b. ⌜ b ≡ hasState Idle (getD slots (number - 1) freeSlot) ⌝ }
 {
-    is_slot_idle(slots, n, registers[i - 1])
+    slot_tests::has_state(slots[number - 1], SlotState::Idle)
 }
 
 // Whether the key in a register, counted from 1, may vend.
@@ -48,11 +36,21 @@ pub fn is_usable(t: Tables, register: usize) -> bool
     }
     let slots = t.slots;
     let registers = t.registers;
-    if !soundness::are_rows_sound(slots, n, registers, m) {
+    let cards = register_tables::cards_of(registers);
+    let f = soundness::find(slots, n, &cards[..m]);
+    if !f.sound {
         return false;
     }
-    if !record_tests::is_filled(registers, m, register) {
+    if register < 1 {
         return false;
     }
-    is_idle(slots, n, registers, m, register)
+    if m < register {
+        return false;
+    }
+    let owners = f.owners;
+    let owner = owner_of(owners, register);
+    if owner == 0 {
+        return false;
+    }
+    is_idle(slots, owner)
 }

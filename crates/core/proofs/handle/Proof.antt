@@ -1,5 +1,5 @@
--- `core::handle` meets its contract: demands 1 and 2.
-use Rattle.core.proofs.HandleLaws.{responds, changes, outcome-right, rows-right, responded}
+-- `core::handle` meets its contract: the tables with the cards of their rows are the tables.
+use Rattle.core.proofs.HandleLaws.{outcome-lent, responded-lent, rows-after}
 use borrow.Author.Needs.{needs}
 use Rattle.core.proofs.handle.Statement.{statement}
 use Rattle.core.proofs.handle.Tie as tie
@@ -9,9 +9,8 @@ handle-spec =
     tie.close
     (tie.spec
     (λ c κs. search needs)
-    (λ c κs. search responds)
-    (λ c κs. search needs)
-    (λ c κs. search needs)
-    (λ c κs. search changes)
     (λ c. search needs)
-    (λ c. (search outcome-right, (search responded, (search rows-right, search needs)))))
+    (λ c κs. search needs)
+    (λ c κs. search needs)
+    (λ c. search needs)
+    (λ c. (search outcome-lent, (search responded-lent, (search rows-after, search needs)))))

@@ -1,8 +1,6 @@
--- `load_decisions::decide_load` meets its contract: each return is the questions so far, in turn.
-use Rattle.command_questions.proofs.Asking.{asking}
+-- `load_decisions::decide_load` meets its contract: the fields are those of the command, or refused.
 use Rattle.payloads.proofs.PayloadLaws.{twoBounds}
-use Rattle.command_questions.proofs.RecordLaws.{texts-refused, load-by, load-row-by}
-use Rattle.command_questions.proofs.Known.{place-in, place-fits}
+use Rattle.command_questions.proofs.RecordLaws.{texts-refused, load-by}
 use borrow.Author.Needs.{needs}
 use Rattle.load_decisions.proofs.decide_load.Statement.{statement}
 use Rattle.load_decisions.proofs.decide_load.Tie as tie
@@ -18,20 +16,8 @@ decide-load-spec =
     (λ c. search twoBounds)
     (λ c. search twoBounds)
     (λ c. search twoBounds)
-    (λ c κs. search needs)
-    (λ c. search (load-by, asking))
-    (λ c κs. search needs)
-    (λ c. search (load-by, asking))
     (λ c. search twoBounds)
     (λ c. search twoBounds)
     (λ c. search twoBounds)
     (λ c κs. search needs)
-    (λ c. search needs)
-    (λ c. search needs)
-    (λ c. search (load-by, asking))
-    (λ c. search (place-fits, needs))
-    (λ c. search (place-in, needs))
-    (λ c κs. search needs)
-    (λ c. search (load-row-by, asking) depth 12 fits 6000)
-    (λ c κs. search needs)
-    (λ c. search (load-row-by, asking) depth 12 fits 6000))
+    (λ c. search load-by))

@@ -1,5 +1,6 @@
 -- `load_decisions::decide_store` meets its contract: each return is the questions so far, in turn.
 use Rattle.command_questions.proofs.Asking.{asking}
+use Rattle.command_questions.proofs.ByKeys.{byKeys}
 use borrow.Author.Needs.{needs}
 use Rattle.load_decisions.proofs.decide_store.Statement.{statement}
 use Rattle.load_decisions.proofs.decide_store.Tie as tie
@@ -13,5 +14,5 @@ decide-store-spec =
     (λ c κs. search needs)
     (λ c. search needs)
     (λ c. search needs)
-    (λ c. search asking)
-    (λ c. search asking))
+    (λ c. search (asking, byKeys))
+    (λ c. search (asking, byKeys)))

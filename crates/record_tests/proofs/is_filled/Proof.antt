@@ -1,5 +1,5 @@
 -- `record_tests::is_filled` meets its contract, a law a return.
-use Rattle.record_tests.proofs.WordLaws.{filled-zero, filled-beyond, filled-row}
+use Rattle.record_tests.proofs.RegisterLaws.{filled-zero, filled-beyond, filled-row}
 use borrow.Author.Needs.{needs}
 use Rattle.record_tests.proofs.is_filled.Statement.{statement}
 use Rattle.record_tests.proofs.is_filled.Tie as tie
@@ -12,5 +12,4 @@ is-filled-spec =
     (λ c. search (filled-beyond, needs))
     (λ c. search needs)
     (λ c. search needs)
-    (λ c κs. search needs)
     (λ c. search (filled-row, needs)))

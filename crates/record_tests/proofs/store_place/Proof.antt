@@ -1,5 +1,5 @@
 -- `record_tests::store_place` meets its contract, a law a return.
-use Rattle.record_tests.proofs.WordLaws.{store-held, store-vacant}
+use Rattle.record_tests.proofs.RegisterLaws.{store-held, store-vacant}
 use borrow.Author.Needs.{needs}
 use Rattle.record_tests.proofs.store_place.Statement.{statement}
 use Rattle.record_tests.proofs.store_place.Tie as tie
@@ -8,7 +8,6 @@ pub store-place-spec : {M : Type 1} → statement M
 store-place-spec =
     tie.close
     (tie.spec
-    (λ c κs. search needs)
     (λ c κs. search needs)
     (λ c κs. search needs)
     (λ c. search needs)

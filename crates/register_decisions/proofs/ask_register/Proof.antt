@@ -1,6 +1,7 @@
 -- `register_decisions::ask_register` meets its contract, a law a return.
+use Rattle.command_questions.proofs.ByKeys.{byKeys}
 use Rattle.command_questions.proofs.RowLaws.{register-unread, register-empty, register-filled}
-use Rattle.record_tests.proofs.WordLaws.{filled-least}
+use Rattle.register_decisions.proofs.NumberLaws.{register-none}
 use borrow.Author.Needs.{needs}
 use Rattle.register_decisions.proofs.ask_register.Statement.{statement}
 use Rattle.register_decisions.proofs.ask_register.Tie as tie
@@ -14,7 +15,7 @@ ask-register-spec =
     (λ c. search needs)
     (λ c. search register-unread)
     (λ c. search needs)
+    (λ c. search register-none)
     (λ c κs. search needs)
-    (λ c. search register-empty)
-    (λ c. search filled-least)
-    (λ c. search register-filled))
+    (λ c. search (register-empty, byKeys))
+    (λ c. search (register-filled, byKeys)))

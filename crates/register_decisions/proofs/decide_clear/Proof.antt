@@ -1,5 +1,6 @@
 -- `register_decisions::decide_clear` meets its contract: what was asked is a no or a place.
 use Rattle.command_questions.proofs.Asking.{done}
+use Rattle.command_questions.proofs.ByKeys.{byKeys}
 use Rattle.command_questions.proofs.RowLaws.{clear-by}
 use borrow.Author.Needs.{needs}
 use Rattle.register_decisions.proofs.decide_clear.Statement.{statement}
@@ -12,5 +13,5 @@ decide-clear-spec =
     (λ c κs. search needs)
     (λ c. search needs)
     (λ c. search needs)
-    (λ c. search (clear-by, done))
-    (λ c. search (clear-by, done)))
+    (λ c. search (clear-by, done, byKeys))
+    (λ c. search (clear-by, done, byKeys)))

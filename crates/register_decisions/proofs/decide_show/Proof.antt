@@ -1,5 +1,6 @@
 -- `register_decisions::decide_show` meets its contract: what was asked is a no or a place.
 use Rattle.command_questions.proofs.Asking.{done}
+use Rattle.command_questions.proofs.ByKeys.{byKeys}
 use Rattle.command_questions.proofs.RowLaws.{show-by}
 use borrow.Author.Needs.{needs}
 use Rattle.register_decisions.proofs.decide_show.Statement.{statement}
@@ -12,5 +13,5 @@ decide-show-spec =
     (λ c κs. search needs)
     (λ c. search needs)
     (λ c. search needs)
-    (λ c. search (show-by, done))
-    (λ c. search (show-by, done)))
+    (λ c. search (show-by, done, byKeys))
+    (λ c. search (show-by, done, byKeys)))

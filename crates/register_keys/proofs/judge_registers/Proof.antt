@@ -1,29 +1,41 @@
--- `register_keys::judge_registers` meets its contract. The invariant speaks of the rows that are left, and of the keys so far.
+-- `register_keys::judge_registers` meets its contract. The invariant speaks of the cards that are left, and of the numbers so far.
 use mathlib.Core.Path.{_≡_, refl}
-use mathlib.Core.List.{map}
-use Prim.Native.Nat.{_-_, _≤_}
+use mathlib.Core.Bool.{false}
+use mathlib.Core.List.{List, [], map}
+use Prim.Native.Nat.{ℕ, _-_, _≤_}
+use native.Mathlib.Omega.{arith}
 use lib.ListN.{length, take, drop}
 use Rattle.rows.specs.Lists.{everyRow}
 use Rattle.rows.specs.Index.{keyNumber}
-use Rattle.rows.proofs.LoopLaws.{every-ended, every-not, every-turn}
+use Rattle.row_index.specs.Found.{ownerNumber}
+use Rattle.row_index.specs.Lent.{rowWith}
+use Rattle.row_index.proofs.LentLoops.{lent-ended, lent-not, lent-turn, told-turn, told-ended, untold, every-row}
 use Rattle.register_keys.specs.Judged.{isSoundUnder}
-use Rattle.register_keys.proofs.KeyLaws.{keys-turn, keys-ended, keys-untold}
+use Rattle.register_keys.proofs.KeyLaws.{judged-number}
 use borrow.Author.Needs.{needs}
 use Rattle.register_keys.proofs.judge_registers.Statement.{statement}
 use Rattle.register_keys.proofs.judge_registers.Tie as tie
 
 abbrev Inv-loop : tie.InvT-loop
-Inv-loop m names registers keys₀ i₀ keys i = (length registers ≡ 32) × (length keys ≡ 32) × (m ≤ 32) × (i ≤ m) × (everyRow (isSoundUnder names) (drop i (take m registers)) ≡ everyRow (isSoundUnder names) (take m registers)) × (take i keys ≡ map keyNumber (take i registers))
+Inv-loop cards names keys₀ owners₀ i₀ keys owners i = (length cards ≤ 32) × (length keys ≡ 32) × (length owners ≡ 32) × (i ≤ length cards) × (everyRow (λ (x : List ℕ). isSoundUnder names (rowWith x)) (drop i cards) ≡ everyRow (isSoundUnder names) (map rowWith cards)) × (take i keys ≡ map (λ (x : List ℕ). keyNumber (rowWith x)) (take i cards)) × (take i owners ≡ map (λ (x : List ℕ). ownerNumber names (rowWith x)) (take i cards))
 
 abbrev μ-loop : tie.MeasureT-loop
-μ-loop m names registers keys₀ i₀ keys i = m - i
+μ-loop cards names keys₀ owners₀ i₀ keys owners i = length cards - i
 
 loop-again : tie.Need-loop-again Inv-loop μ-loop
 loop-again c =
     let j = c .before .before in
     let l = j .before .before .before .loop .inv in
-    let k = keys-turn _ _ _ _ _ (l .5) (l .0) (l .1) (l .2) (j .before .before .loop-test .taken) _ _ (j .judge-register .ensures .1) (c .if1 .left) in
-    (search needs, search needs, search needs, search needs, search every-turn, k)
+    let h = j .before .before .loop-test .taken in
+    let k = told-turn keyNumber rowWith _ _ _ _ (l .5) h (omega (arith, l .0, l .1, h)) _ (judged-number _ _ _ (j .judge-register .ensures .1 .0) (c .if1 .left)) in
+    let o = told-turn (ownerNumber _) rowWith _ _ _ _ (l .6) h (omega (arith, l .0, l .2, h)) _ (judged-number _ _ _ (j .judge-register .ensures .1 .1) (c .if1 .left)) in
+    (search needs, search needs, search needs, search needs, search lent-turn, k, o)
+
+returns-2 : tie.Need-returns-2 Inv-loop μ-loop
+returns-2 c =
+    let l = c .before .loop .inv in
+    let h = c .loop-test .left in
+    (search lent-ended, (search needs, ((λ z. told-ended keyNumber rowWith [] _ _ _ (l .5) h (l .3)), (λ z. told-ended (ownerNumber _) rowWith [] _ _ _ (l .6) h (l .3)))))
 
 pub judge-registers-spec : {M : Type 1} → statement M
 judge-registers-spec =
@@ -31,14 +43,16 @@ judge-registers-spec =
     (tie.spec
     Inv-loop
     μ-loop
-    (λ c. (search needs, search needs, search needs, search needs, refl, refl))
+    (λ c. (search needs, search needs, search needs, search needs, search every-row, refl, refl))
     (λ c. search needs)
     (λ c. search needs)
     (λ c κs. search needs)
-    (λ c. (search every-not, (search needs, λ z. keys-untold _ _ z)))
+    (λ c. (search lent-not, (search needs, ((λ z. untold false refl z), (λ z. untold false refl z)))))
+    (λ c. search needs)
+    (λ c. search needs)
     (λ c. search needs)
     (λ c. search needs)
     (λ c. search needs)
     (λ c. search needs)
     loop-again
-    (λ c. (search every-ended, (search needs, λ z. search keys-ended))))
+    returns-2)

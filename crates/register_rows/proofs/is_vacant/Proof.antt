@@ -1,5 +1,5 @@
--- `register_rows::is_vacant` meets its contract, a law a return.
-use Rattle.register_rows.proofs.RowLaws.{starts-filled, all-tested}
+-- `register_rows::is_vacant` meets its contract: a free row is a space that is clear.
+use Rattle.register_rows.proofs.RowLaws.{all-tested}
 use borrow.Author.Needs.{needs}
 use Rattle.register_rows.proofs.is_vacant.Statement.{statement}
 use Rattle.register_rows.proofs.is_vacant.Tie as tie
@@ -8,7 +8,5 @@ pub is-vacant-spec : {M : Type 1} → statement M
 is-vacant-spec =
     tie.close
     (tie.spec
-    (λ c. search needs)
-    (λ c. search starts-filled)
     (λ c κs. search needs)
     (λ c. search all-tested))

@@ -1,19 +1,19 @@
--- `register_searches::key_place` meets its contract. The invariant speaks of the rows that are left.
+-- `register_searches::key_place` meets its contract. The invariant speaks of the keys that are left.
 use mathlib.Core.Path.{_≡_, refl}
 use Prim.Native.Nat.{_-_, _≤_}
 use lib.ListN.{length, take, drop}
 use Rattle.rows.specs.Lists.{firstFrom}
-use Rattle.rows.specs.Registers.{isKeyOf}
 use Rattle.rows.proofs.LoopLaws.{first-ended, first-here, first-turn}
+use Rattle.row_index.specs.Found.{isThe}
 use borrow.Author.Needs.{needs}
 use Rattle.register_searches.proofs.key_place.Statement.{statement}
 use Rattle.register_searches.proofs.key_place.Tie as tie
 
 abbrev Inv-loop : tie.InvT-loop
-Inv-loop m g k registers i₀ i = (length registers ≡ 32) × (m ≤ 32) × (i ≤ m) × (firstFrom (isKeyOf g k) i (drop i (take m registers)) ≡ firstFrom (isKeyOf g k) 0 (take m registers))
+Inv-loop m key keys i₀ i = (length keys ≡ 32) × (m ≤ 32) × (i ≤ m) × (firstFrom (isThe key) i (drop i (take m keys)) ≡ firstFrom (isThe key) 0 (take m keys))
 
 abbrev μ-loop : tie.MeasureT-loop
-μ-loop m g k registers i₀ i = m - i
+μ-loop m key keys i₀ i = m - i
 
 pub key-place-spec : {M : Type 1} → statement M
 key-place-spec =

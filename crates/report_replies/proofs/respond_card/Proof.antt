@@ -1,4 +1,4 @@
--- `report_replies::respond_card` meets its contract: the card is what stands in the row before its zeros.
+-- `report_replies::respond_card` meets its contract: the card is what stands before its zeros.
 use Rattle.session_replies.proofs.ReplyWords.{head-long}
 use Rattle.report_replies.proofs.ReportWords.{card-fits, card-written}
 use borrow.Author.Needs.{needs}
@@ -9,7 +9,6 @@ pub respond-card-spec : {M : Type 1} → statement M
 respond-card-spec =
     tie.close
     (tie.spec
-    (λ c. search needs)
     (λ c κs. search needs)
     (λ c κs. search needs)
     (λ c. search needs)

@@ -1,6 +1,5 @@
 -- `responding::respond` meets its contract, an arm at a time.
-use Rattle.rows.proofs.PlaceCounts.{eight, thirty-two}
-use Rattle.responding.proofs.RespondLaws.{refuse-room, pend-room, pend-fields, pend-kmcid, pend-request, open-room, open-fields, open-kmcid, load-room, load-fields, load-card, load-place, show-room, show-place, show-fits, enumerate-room, enumerate-count, query-room, query-place, query-fits, query-count, plain-room, written-arm, plain-arm, show-written, query-written}
+use Rattle.responding.proofs.RespondLaws.{refuse-room, pend-room, pend-fields, pend-kmcid, pend-request, open-room, open-fields, open-kmcid, load-room, load-long, load-place, load-card, load-front, load-part, load-short, load-written, show-room, show-place, show-in, show-fits, enumerate-room, enumerate-count, query-room, query-place, query-fits, query-sum, query-count, query-owned, plain-room, written-arm, plain-arm, show-written, query-written}
 use borrow.Author.Needs.{needs}
 use Rattle.responding.proofs.respond.Statement.{statement}
 use Rattle.responding.proofs.respond.Tie as tie
@@ -16,17 +15,20 @@ respond-spec =
     (λ c. search needs)
     (λ c κs. search (open-room, open-fields, open-kmcid))
     (λ c. search needs)
-    (λ c κs. search (load-room, load-fields, load-card, load-place))
+    (λ c. search (load-part, needs))
+    (λ c. search (load-front, needs))
+    (λ c κs. search (load-room, load-short, load-place))
     (λ c κs. search plain-room)
     (λ c. search needs)
-    (λ c. search (show-place, show-fits, needs))
-    (λ c. search (show-place, show-fits, needs))
-    (λ c κs. search show-room)
+    (λ c. search show-fits)
+    (λ c. search show-in)
+    (λ c κs. (search needs, search show-room))
     (λ c. search needs)
     (λ c κs. search (enumerate-room, enumerate-count))
     (λ c. search needs)
-    (λ c. search (query-place, query-fits, needs))
-    (λ c. search (query-place, query-fits, needs))
+    (λ c. search query-fits)
+    (λ c. search query-place)
+    (λ c. search (query-sum, needs))
     (λ c κs. search (query-room, query-count))
     (λ c. search needs)
     (λ c. (search written-arm, search needs))
@@ -35,12 +37,12 @@ respond-spec =
     (λ c. search needs)
     (λ c. (search written-arm, search needs))
     (λ c. search needs)
-    (λ c. (search written-arm, search needs))
+    (λ c. (search (load-written, load-card), search needs))
     (λ c. search needs)
     (λ c. (search plain-arm, search needs))
     (λ c. search needs)
-    (λ c. (search (show-written, thirty-two, show-place), search needs))
+    (λ c. (search (show-written, show-place), search needs))
     (λ c. search needs)
     (λ c. (search written-arm, search needs))
     (λ c. search needs)
-    (λ c. (search (query-written, eight, query-place), search needs)))
+    (λ c. (search (query-written, query-place, query-owned, needs), search needs)))

@@ -9,7 +9,6 @@ put-register-spec =
     tie.close
     (tie.spec
     (λ c κs. search needs)
-    (λ c. (search other-untold, search needs))
-    (λ c κs. search needs)
     (λ c. search needs)
-    (λ c. (search number-told, search needs)))
+    (λ c. (search number-told, search needs))
+    (λ c. (search (other-untold, c .if1 .left), search needs)))

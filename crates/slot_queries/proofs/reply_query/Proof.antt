@@ -11,8 +11,6 @@ reply-query-spec =
     (λ c. search needs)
     (λ c κs. (search needs, search needs))
     (λ c κs. search needs)
-    (λ c. search needs)
-    (λ c κs. search needs)
     (λ c κs. (search needs, search needs))
     (λ c κs. search needs)
     (λ c. search needs)

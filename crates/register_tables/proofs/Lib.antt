@@ -1,0 +1,2 @@
+pub mod FreedLaws
+pub mod CardRows

@@ -1,0 +1,27 @@
+-- Cards of rows that are lent read as the rows.
+use mathlib.Core.Path.{_≡_, refl, ap, _∙_}
+use mathlib.Core.List.{List, [], _∷_, map}
+use Prim.Native.Nat.{ℕ, zero, suc, _≤_}
+use native.Mathlib.Omega.{arith}
+use lib.ListN.{length, take}
+use Rattle.rows.specs.declared.RegisterRow.{RegisterRow}
+use Rattle.row_index.specs.Lent.{rowWith, rowsWith, cardIn}
+
+-- a front is no longer than it was to be
+pub take-short : {A : Type 0} (n : ℕ) (l : List A) → length (take n l) ≤ n
+take-short zero l = omega arith
+take-short (suc n) [] = omega arith
+take-short (suc n) (x ∷ xs) = let h = take-short n xs in omega arith
+
+pub rows-again : (l : List RegisterRow) → rowsWith (map cardIn l) ≡ l
+rows-again [] = refl
+rows-again (r ∷ rs) = ap (λ (z : List RegisterRow). r ∷ z) (rows-again rs)
+
+pub rows-front : (m : ℕ) (cards : List (List ℕ)) → rowsWith (take m cards) ≡ take m (rowsWith cards)
+rows-front zero cards = refl
+rows-front (suc m) [] = refl
+rows-front (suc m) (c ∷ cs) = ap (λ (z : List RegisterRow). rowWith c ∷ z) (rows-front m cs)
+
+-- the first m of the rows, by their cards
+pub rows-lent : (l : List RegisterRow) (m : ℕ) (cards : List (List ℕ)) → cards ≡ map cardIn l → rowsWith (take m cards) ≡ take m l
+rows-lent l m cards e = rows-front m cards ∙ ap (λ (z : List (List ℕ)). take m (rowsWith z)) e ∙ ap (take m) (rows-again l)

@@ -1,0 +1,10 @@
+pub mod Readings
+pub mod StoredValues
+pub mod NameLaws
+pub mod KeyLaws
+pub mod NumberOf
+pub mod LentLoops
+pub mod OwnerLaws
+pub mod LentLaws
+pub mod NumberLaws
+pub mod KeyReadings
