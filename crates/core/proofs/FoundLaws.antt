@@ -37,9 +37,6 @@ module _ (m : ℕ) (cards : List (List ℕ)) (z : length cards ≡ 32) (h : m �
   pub lent-few : length (take m cards) ≤ 32
   lent-few = let e = lent-long in omega arith
 
-  pub lent-room : m ≤ length cards
-  lent-room = omega arith
-
   pub lent-front : m ≡ length (take m cards)
   lent-front = sym lent-long
 
