@@ -1,7 +1,8 @@
 -- The two cards in whole requests, over rows whose slot is LOADING: the answer is what the definition computes.
 use mathlib.Core.Path.{_≡_, refl}
-use mathlib.Core.List.{List, [], _∷_, map}
+use mathlib.Core.List.{List, [], _∷_, map, _++_}
 use Prim.Native.Nat.{ℕ}
+use Rattle.octets.specs.Texts.{text}
 use Rattle.crc.specs.Crc.{crcBit, crcEight, crcByte}
 use Rattle.hexadecimal.specs.Hex.{hexDigit, hexValue, fromDigits, readHex4}
 use Rattle.checksum.specs.Checksum.{sumDigits, endsInSum}
@@ -44,11 +45,11 @@ loading = lent (filledSlot Loading a printA []) freeSlot freeRegister
 
 -- SM?KLPA~PKEY.1|01|ACT20130716T151031Z;BDT20130716T151031Z;DKG04;KRN6;KEN255;KTC2;SGC0000758825;|02|BE8D~84A4
 abbrev pub unordered : List ℕ
-unordered = 83 ∷ 77 ∷ 63 ∷ 75 ∷ 76 ∷ 80 ∷ 65 ∷ 126 ∷ 80 ∷ 75 ∷ 69 ∷ 89 ∷ 46 ∷ 49 ∷ 124 ∷ 48 ∷ 49 ∷ 124 ∷ 65 ∷ 67 ∷ 84 ∷ 50 ∷ 48 ∷ 49 ∷ 51 ∷ 48 ∷ 55 ∷ 49 ∷ 54 ∷ 84 ∷ 49 ∷ 53 ∷ 49 ∷ 48 ∷ 51 ∷ 49 ∷ 90 ∷ 59 ∷ 66 ∷ 68 ∷ 84 ∷ 50 ∷ 48 ∷ 49 ∷ 51 ∷ 48 ∷ 55 ∷ 49 ∷ 54 ∷ 84 ∷ 49 ∷ 53 ∷ 49 ∷ 48 ∷ 51 ∷ 49 ∷ 90 ∷ 59 ∷ 68 ∷ 75 ∷ 71 ∷ 48 ∷ 52 ∷ 59 ∷ 75 ∷ 82 ∷ 78 ∷ 54 ∷ 59 ∷ 75 ∷ 69 ∷ 78 ∷ 50 ∷ 53 ∷ 53 ∷ 59 ∷ 75 ∷ 84 ∷ 67 ∷ 50 ∷ 59 ∷ 83 ∷ 71 ∷ 67 ∷ 48 ∷ 48 ∷ 48 ∷ 48 ∷ 55 ∷ 53 ∷ 56 ∷ 56 ∷ 50 ∷ 53 ∷ 59 ∷ 124 ∷ 48 ∷ 50 ∷ 124 ∷ 66 ∷ 69 ∷ 56 ∷ 68 ∷ 126 ∷ 56 ∷ 52 ∷ 65 ∷ 52 ∷ 13 ∷ []
+unordered = text "SM?KLPA~PKEY.1|01|ACT20130716T151031Z;BDT20130716T151031Z;DKG04;KRN6;KEN255;KTC2;SGC0000758825;|02|BE8D~" ++ text "84A4\r"
 
 -- SM?KLPA~PKEY.1|01|ACT20130716T151031Z;BDT20130716T151031Z;DKG04;KEN255;KRN0;KTC2;SGC0000758825;|02|9995~3806
 abbrev pub revisionZero : List ℕ
-revisionZero = 83 ∷ 77 ∷ 63 ∷ 75 ∷ 76 ∷ 80 ∷ 65 ∷ 126 ∷ 80 ∷ 75 ∷ 69 ∷ 89 ∷ 46 ∷ 49 ∷ 124 ∷ 48 ∷ 49 ∷ 124 ∷ 65 ∷ 67 ∷ 84 ∷ 50 ∷ 48 ∷ 49 ∷ 51 ∷ 48 ∷ 55 ∷ 49 ∷ 54 ∷ 84 ∷ 49 ∷ 53 ∷ 49 ∷ 48 ∷ 51 ∷ 49 ∷ 90 ∷ 59 ∷ 66 ∷ 68 ∷ 84 ∷ 50 ∷ 48 ∷ 49 ∷ 51 ∷ 48 ∷ 55 ∷ 49 ∷ 54 ∷ 84 ∷ 49 ∷ 53 ∷ 49 ∷ 48 ∷ 51 ∷ 49 ∷ 90 ∷ 59 ∷ 68 ∷ 75 ∷ 71 ∷ 48 ∷ 52 ∷ 59 ∷ 75 ∷ 69 ∷ 78 ∷ 50 ∷ 53 ∷ 53 ∷ 59 ∷ 75 ∷ 82 ∷ 78 ∷ 48 ∷ 59 ∷ 75 ∷ 84 ∷ 67 ∷ 50 ∷ 59 ∷ 83 ∷ 71 ∷ 67 ∷ 48 ∷ 48 ∷ 48 ∷ 48 ∷ 55 ∷ 53 ∷ 56 ∷ 56 ∷ 50 ∷ 53 ∷ 59 ∷ 124 ∷ 48 ∷ 50 ∷ 124 ∷ 57 ∷ 57 ∷ 57 ∷ 53 ∷ 126 ∷ 51 ∷ 56 ∷ 48 ∷ 54 ∷ 13 ∷ []
+revisionZero = text "SM?KLPA~PKEY.1|01|ACT20130716T151031Z;BDT20130716T151031Z;DKG04;KEN255;KRN0;KTC2;SGC0000758825;|02|9995~" ++ text "3806\r"
 
 abbrev pub requests : List (List ℕ)
 requests = unordered ∷ revisionZero ∷ []
@@ -60,7 +61,7 @@ sample-cards = refl
 
 -- SM!KLEEPKM.10~4705
 abbrev pub refusal10 : List ℕ
-refusal10 = 83 ∷ 77 ∷ 33 ∷ 75 ∷ 76 ∷ 69 ∷ 69 ∷ 80 ∷ 75 ∷ 77 ∷ 46 ∷ 49 ∷ 48 ∷ 126 ∷ 52 ∷ 55 ∷ 48 ∷ 53 ∷ 13 ∷ []
+refusal10 = text "SM!KLEEPKM.10~4705\r"
 
 -- each is answered so, and every row stays
 abbrev pub EachAnswered : List (List ℕ) → Type 0

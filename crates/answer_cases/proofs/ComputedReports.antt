@@ -1,9 +1,10 @@
 -- SM?GA, SM?GL and SM?KQ in whole requests: the bytes of their answers are what the definition computes. The last is the example of 001 clause 5.3.3. And which key may vend, computed.
 use mathlib.Core.Path.{_≡_, refl}
 use mathlib.Core.Bool.{true, false}
-use mathlib.Core.List.{List, [], _∷_}
+use mathlib.Core.List.{List, [], _∷_, _++_}
 use Prim.Native.Nat.{ℕ}
 use lib.ListN.{replicate}
+use Rattle.octets.specs.Texts.{text}
 use Rattle.crc.specs.Crc.{crcBit, crcEight, crcByte}
 use Rattle.hexadecimal.specs.Hex.{hexDigit, hexValue, fromDigits, readHex4}
 use Rattle.checksum.specs.Checksum.{sumDigits, endsInSum}
@@ -56,49 +57,49 @@ pub record Report : Type 0 where
 -- SM?GL6991: SM!GL00PA~PB~7FFA
 abbrev pub rowByRow : Report
 rowByRow = record {
-  request = 83 ∷ 77 ∷ 63 ∷ 71 ∷ 76 ∷ 54 ∷ 57 ∷ 57 ∷ 49 ∷ 13 ∷ [];
+  request = text "SM?GL6991\r";
   sequence = a ∷ b ∷ [];
-  answer = 83 ∷ 77 ∷ 33 ∷ 71 ∷ 76 ∷ 48 ∷ 48 ∷ 80 ∷ 65 ∷ 126 ∷ 80 ∷ 66 ∷ 126 ∷ 55 ∷ 70 ∷ 70 ∷ 65 ∷ 13 ∷ [];
+  answer = text "SM!GL00PA~PB~7FFA\r";
 }
 
 -- SM?GL6991: SM!GL00PB~PA~8FBE
 abbrev pub turned : Report
 turned = record {
-  request = 83 ∷ 77 ∷ 63 ∷ 71 ∷ 76 ∷ 54 ∷ 57 ∷ 57 ∷ 49 ∷ 13 ∷ [];
+  request = text "SM?GL6991\r";
   sequence = b ∷ a ∷ [];
-  answer = 83 ∷ 77 ∷ 33 ∷ 71 ∷ 76 ∷ 48 ∷ 48 ∷ 80 ∷ 66 ∷ 126 ∷ 80 ∷ 65 ∷ 126 ∷ 56 ∷ 70 ∷ 66 ∷ 69 ∷ 13 ∷ [];
+  answer = text "SM!GL00PB~PA~8FBE\r";
 }
 
 -- SM?KQPA~B1D9: SM!KQ00PPENDING~PA~P~H~P20260101T000000Z~HAAAAAAAAAAAAAAAA~CB31
 abbrev pub pendingSlot : Report
 pendingSlot = record {
-  request = 83 ∷ 77 ∷ 63 ∷ 75 ∷ 81 ∷ 80 ∷ 65 ∷ 126 ∷ 66 ∷ 49 ∷ 68 ∷ 57 ∷ 13 ∷ [];
+  request = text "SM?KQPA~B1D9\r";
   sequence = [];
-  answer = 83 ∷ 77 ∷ 33 ∷ 75 ∷ 81 ∷ 48 ∷ 48 ∷ 80 ∷ 80 ∷ 69 ∷ 78 ∷ 68 ∷ 73 ∷ 78 ∷ 71 ∷ 126 ∷ 80 ∷ 65 ∷ 126 ∷ 80 ∷ 126 ∷ 72 ∷ 126 ∷ 80 ∷ 50 ∷ 48 ∷ 50 ∷ 54 ∷ 48 ∷ 49 ∷ 48 ∷ 49 ∷ 84 ∷ 48 ∷ 48 ∷ 48 ∷ 48 ∷ 48 ∷ 48 ∷ 90 ∷ 126 ∷ 72 ∷ 65 ∷ 65 ∷ 65 ∷ 65 ∷ 65 ∷ 65 ∷ 65 ∷ 65 ∷ 65 ∷ 65 ∷ 65 ∷ 65 ∷ 65 ∷ 65 ∷ 65 ∷ 65 ∷ 126 ∷ 67 ∷ 66 ∷ 51 ∷ 49 ∷ 13 ∷ [];
+  answer = text "SM!KQ00PPENDING~PA~P~H~P20260101T000000Z~HAAAAAAAAAAAAAAAA~CB31\r";
 }
 
 -- SM?KQPB~41D9: SM!KQ00PACTIVE~PB~P~HBBBBBBBBBBBBBBBB~P~H~N1~555C
 abbrev pub idleSlot : Report
 idleSlot = record {
-  request = 83 ∷ 77 ∷ 63 ∷ 75 ∷ 81 ∷ 80 ∷ 66 ∷ 126 ∷ 52 ∷ 49 ∷ 68 ∷ 57 ∷ 13 ∷ [];
+  request = text "SM?KQPB~41D9\r";
   sequence = [];
-  answer = 83 ∷ 77 ∷ 33 ∷ 75 ∷ 81 ∷ 48 ∷ 48 ∷ 80 ∷ 65 ∷ 67 ∷ 84 ∷ 73 ∷ 86 ∷ 69 ∷ 126 ∷ 80 ∷ 66 ∷ 126 ∷ 80 ∷ 126 ∷ 72 ∷ 66 ∷ 66 ∷ 66 ∷ 66 ∷ 66 ∷ 66 ∷ 66 ∷ 66 ∷ 66 ∷ 66 ∷ 66 ∷ 66 ∷ 66 ∷ 66 ∷ 66 ∷ 66 ∷ 126 ∷ 80 ∷ 126 ∷ 72 ∷ 126 ∷ 78 ∷ 49 ∷ 126 ∷ 53 ∷ 53 ∷ 53 ∷ 67 ∷ 13 ∷ [];
+  answer = text "SM!KQ00PACTIVE~PB~P~HBBBBBBBBBBBBBBBB~P~H~N1~555C\r";
 }
 
 -- SM?GAN1~B688: SM!GA00PACT20130716T151031Z;BDT20130716T151031Z;CLMFFFFFFFF;CLU0;DKG04;IUT20380119T031407Z;KCV92E101;KEN255;KRN6;KSLB;KTC2;SBMFFFF;SGC0000758825;ULM999999999;VND0;~5EC3
 abbrev pub filledRegisterShown : Report
 filledRegisterShown = record {
-  request = 83 ∷ 77 ∷ 63 ∷ 71 ∷ 65 ∷ 78 ∷ 49 ∷ 126 ∷ 66 ∷ 54 ∷ 56 ∷ 56 ∷ 13 ∷ [];
+  request = text "SM?GAN1~B688\r";
   sequence = [];
-  answer = 83 ∷ 77 ∷ 33 ∷ 71 ∷ 65 ∷ 48 ∷ 48 ∷ 80 ∷ 65 ∷ 67 ∷ 84 ∷ 50 ∷ 48 ∷ 49 ∷ 51 ∷ 48 ∷ 55 ∷ 49 ∷ 54 ∷ 84 ∷ 49 ∷ 53 ∷ 49 ∷ 48 ∷ 51 ∷ 49 ∷ 90 ∷ 59 ∷ 66 ∷ 68 ∷ 84 ∷ 50 ∷ 48 ∷ 49 ∷ 51 ∷ 48 ∷ 55 ∷ 49 ∷ 54 ∷ 84 ∷ 49 ∷ 53 ∷ 49 ∷ 48 ∷ 51 ∷ 49 ∷ 90 ∷ 59 ∷ 67 ∷ 76 ∷ 77 ∷ 70 ∷ 70 ∷ 70 ∷ 70 ∷ 70 ∷ 70 ∷ 70 ∷ 70 ∷ 59 ∷ 67 ∷ 76 ∷ 85 ∷ 48 ∷ 59 ∷ 68 ∷ 75 ∷ 71 ∷ 48 ∷ 52 ∷ 59 ∷ 73 ∷ 85 ∷ 84 ∷ 50 ∷ 48 ∷ 51 ∷ 56 ∷ 48 ∷ 49 ∷ 49 ∷ 57 ∷ 84 ∷ 48 ∷ 51 ∷ 49 ∷ 52 ∷ 48 ∷ 55 ∷ 90 ∷ 59 ∷ 75 ∷ 67 ∷ 86 ∷ 57 ∷ 50 ∷ 69 ∷ 49 ∷ 48 ∷ 49 ∷ 59 ∷ 75 ∷ 69 ∷ 78 ∷ 50 ∷ 53 ∷ 53 ∷ 59 ∷ 75 ∷ 82 ∷ 78 ∷ 54 ∷ 59 ∷ 75 ∷ 83 ∷ 76 ∷ 66 ∷ 59 ∷ 75 ∷ 84 ∷ 67 ∷ 50 ∷ 59 ∷ 83 ∷ 66 ∷ 77 ∷ 70 ∷ 70 ∷ 70 ∷ 70 ∷ 59 ∷ 83 ∷ 71 ∷ 67 ∷ 48 ∷ 48 ∷ 48 ∷ 48 ∷ 55 ∷ 53 ∷ 56 ∷ 56 ∷ 50 ∷ 53 ∷ 59 ∷ 85 ∷ 76 ∷ 77 ∷ 57 ∷ 57 ∷ 57 ∷ 57 ∷ 57 ∷ 57 ∷ 57 ∷ 57 ∷ 57 ∷ 59 ∷ 86 ∷ 78 ∷ 68 ∷ 48 ∷ 59 ∷ 126 ∷ 53 ∷ 69 ∷ 67 ∷ 51 ∷ 13 ∷ [];
+  answer = text "SM!GA00PACT20130716T151031Z;BDT20130716T151031Z;CLMFFFFFFFF;CLU0;DKG04;IUT20380119T031407Z;KCV92E101;" ++ text "KEN255;KRN6;KSLB;KTC2;SBMFFFF;SGC0000758825;ULM999999999;VND0;~5EC3\r";
 }
 
 -- SM?GAN12~8602: SM!GA22CA00
 abbrev pub emptyRegister : Report
 emptyRegister = record {
-  request = 83 ∷ 77 ∷ 63 ∷ 71 ∷ 65 ∷ 78 ∷ 49 ∷ 50 ∷ 126 ∷ 56 ∷ 54 ∷ 48 ∷ 50 ∷ 13 ∷ [];
+  request = text "SM?GAN12~8602\r";
   sequence = [];
-  answer = 83 ∷ 77 ∷ 33 ∷ 71 ∷ 65 ∷ 50 ∷ 50 ∷ 67 ∷ 65 ∷ 48 ∷ 48 ∷ 13 ∷ [];
+  answer = text "SM!GA22CA00\r";
 }
 
 abbrev pub reports : List Report

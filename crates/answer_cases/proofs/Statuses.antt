@@ -7,6 +7,7 @@ use native.Mathlib.Omega.{arith}
 use lib.Dec.{eqb, leb}
 use lib.ListN.{length}
 use borrow.Author.Tests.{eqb-true, le-leb, lt-leb}
+use Rattle.octets.specs.Texts.{text}
 use Rattle.octets.specs.Strings.{sameBytes}
 use Rattle.octets.proofs.Flags.{nope}
 use Rattle.fields.specs.Values.{Value}
@@ -36,8 +37,8 @@ use Rattle.answer_cases.proofs.Numbers.{numberOf, every-refusal}
 abbrev pub statusFor : ℕ → List ℕ
 statusFor n =
     cond (leb n 4) []
-    (cond (eqb n 6) (50 ∷ 48 ∷ [])
-    (cond (eqb n 7) (50 ∷ 49 ∷ []) (cond (eqb n 12) (50 ∷ 55 ∷ []) (cond (eqb n 20) (50 ∷ 56 ∷ []) (cond (eqb n 21) (50 ∷ 50 ∷ []) extended)))))
+    (cond (eqb n 6) (text "20")
+    (cond (eqb n 7) (text "21") (cond (eqb n 12) (text "27") (cond (eqb n 20) (text "28") (cond (eqb n 21) (text "22") extended)))))
 
 -- and with EE comes one string field: SM.3B.6 to SM.3B.9 for 15 to 18, else KM. and the number in two digits
 abbrev pub textFor : ℕ → List Value

@@ -7,6 +7,7 @@ use Prim.Native.Nat.{ℕ, _+_, _<_}
 use lib.ListN.{length, getD, drop}
 use lib.Seq.{getD-set-same}
 use borrow.Author.Tests.{le-leb}
+use Rattle.octets.specs.Texts.{text}
 use Rattle.text.specs.Classes.{areAll}
 use Rattle.decimals.specs.Decimals.{isNumber, isUnpadded}
 use Rattle.fields.specs.Values.{Value, areValues}
@@ -40,19 +41,16 @@ zero = 48 ∷ []
 
 -- the values of optional attributes that the request's card leaves out; "FFFFFFFF"
 abbrev pub clmDefault : List ℕ
-clmDefault = 70 ∷ 70 ∷ 70 ∷ 70 ∷ 70 ∷ 70 ∷ 70 ∷ 70 ∷ []
+clmDefault = text "FFFFFFFF"
 
--- "20380119T031407Z"
 abbrev pub iutDefault : List ℕ
-iutDefault = 50 ∷ 48 ∷ 51 ∷ 56 ∷ 48 ∷ 49 ∷ 49 ∷ 57 ∷ 84 ∷ 48 ∷ 51 ∷ 49 ∷ 52 ∷ 48 ∷ 55 ∷ 90 ∷ []
+iutDefault = text "20380119T031407Z"
 
--- "FFFF"
 abbrev pub sbmDefault : List ℕ
-sbmDefault = 70 ∷ 70 ∷ 70 ∷ 70 ∷ []
+sbmDefault = text "FFFF"
 
--- "999999999"
 abbrev pub ulmDefault : List ℕ
-ulmDefault = 57 ∷ 57 ∷ 57 ∷ 57 ∷ 57 ∷ 57 ∷ 57 ∷ 57 ∷ 57 ∷ []
+ulmDefault = text "999999999"
 
 -- what the row of a stored card has under each of the fifteen names, from the request's card, the check value and the slot
 pub record Stored (card check slot : List ℕ) (row : RegisterRow) : Type 0 where

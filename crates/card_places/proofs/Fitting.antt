@@ -8,6 +8,7 @@ use lib.Dec.{T, leb}
 use lib.ListN.{length, getD, take, drop, replicate, length-drop}
 use lib.Seq.{getD-drop, getD-take}
 use borrow.Author.Tests.{le-leb, lt-leb, not-true, not-false}
+use Rattle.octets.specs.Texts.{text}
 use Rattle.octets.proofs.Flags.{nope, and-first}
 use Rattle.forms.specs.Forms.{inForm}
 use Rattle.forms.specs.declared.Form.{Form}
@@ -33,7 +34,7 @@ first =
     ∷ row BDT tt Timestamp stampShape (inForm Timestamp) refl stamp-told
     ∷ row CLM tt (Hex 8) (replicate 8 70) noMore refl (hex-told 8)
     ∷ row CLU tt (Number 1 0 0) (48 ∷ []) noMore refl (from-zero-told 0 (omega arith))
-    ∷ row DKG tt Algorithm (48 ∷ 52 ∷ []) (inForm Algorithm) refl algorithm-told
+    ∷ row DKG tt Algorithm (text "04") (inForm Algorithm) refl algorithm-told
     ∷ row IUT tt Timestamp stampShape (inForm Timestamp) refl stamp-told
     ∷ row KCV tt (Hex 6) (replicate 6 70) noMore refl (hex-told 6)
     ∷ []

@@ -9,6 +9,7 @@ use lib.Dec.{T, eqb, leb}
 use lib.ListN.{length, getD, take, drop, replicate, length-replicate, length-drop}
 use lib.Seq.{drop-cons, drop-drop, length-take-le}
 use borrow.Author.Tests.{eq-eqb, le-leb, lt-leb, leb-true, eqb-true, not-true}
+use Rattle.octets.specs.Texts.{text}
 use Rattle.octets.specs.Strings.{allOf}
 use Rattle.octets.proofs.Flags.{nope, and-first, and-second, and-both, or-cases, yes}
 use Rattle.text.specs.Classes.{within, isOf, areAll}
@@ -100,7 +101,7 @@ from-zero-told high m (b ∷ []) l =
 from-zero-told high m (b ∷ c ∷ v) l = absurd (omega arith)
 
 -- 02 or 04
-algorithm-fits : (v : List ℕ) → isAlgorithm v ≡ true → length v ≡ 2 → fits (48 ∷ 52 ∷ []) v ≡ true
+algorithm-fits : (v : List ℕ) → isAlgorithm v ≡ true → length v ≡ 2 → fits (text "04") v ≡ true
 unfolding isAlgorithm fitsByte
 algorithm-fits [] e l = absurd (omega arith)
 algorithm-fits (a ∷ []) e l = absurd (omega arith)
@@ -113,8 +114,8 @@ algorithm-fits (a ∷ b ∷ c ∷ v) e l = absurd (omega arith)
 besides : (f : Form) (shape v : List ℕ) → (inForm f v ≡ true → fits shape v ≡ true) → inForm f v ≡ (fits shape v && inForm f v)
 besides f shape v h = both-ways (inForm f v) (fits shape v && inForm f v) (λ e. and-both (fits shape v) (inForm f v) (h e) e) (and-second (fits shape v) (inForm f v))
 
-pub algorithm-told : Told Algorithm (48 ∷ 52 ∷ []) (inForm Algorithm)
-algorithm-told v l = besides Algorithm (48 ∷ 52 ∷ []) v (λ e. algorithm-fits v e l)
+pub algorithm-told : Told Algorithm (text "04") (inForm Algorithm)
+algorithm-told v l = besides Algorithm (text "04") v (λ e. algorithm-fits v e l)
 
 -- a timestamp
 abbrev pub stampShape : List ℕ

@@ -2,6 +2,7 @@
 use Prim.Native.Nat.{ℕ}
 use mathlib.Core.Bool.{cond}
 use mathlib.Core.List.{List, [], _∷_}
+use Rattle.octets.specs.Texts.{text}
 use Rattle.octets.specs.Strings.{sameBytes}
 use Rattle.commands.specs.declared.Command.{Command}
 use Rattle.commands.specs.declared.Command.the-variants.{RS, KC, KR, KL, KF, KX, KD, GA, GL, KQ, Unknown}
@@ -9,16 +10,16 @@ use Rattle.commands.specs.declared.Header.{Header}
 
 unfoldable pub headers : List Header
 headers =
-    (RS, 71 ∷ 76 ∷ 63 ∷ 82 ∷ 83 ∷ [])  -- GL?RS
-    ∷ (KC, 83 ∷ 77 ∷ 63 ∷ 75 ∷ 67 ∷ [])  -- SM?KC
-    ∷ (KR, 83 ∷ 77 ∷ 63 ∷ 75 ∷ 82 ∷ [])  -- SM?KR
-    ∷ (KL, 83 ∷ 77 ∷ 63 ∷ 75 ∷ 76 ∷ [])  -- SM?KL
-    ∷ (KF, 83 ∷ 77 ∷ 63 ∷ 75 ∷ 70 ∷ [])  -- SM?KF
-    ∷ (KX, 83 ∷ 77 ∷ 63 ∷ 75 ∷ 88 ∷ [])  -- SM?KX
-    ∷ (KD, 83 ∷ 77 ∷ 63 ∷ 75 ∷ 68 ∷ [])  -- SM?KD
-    ∷ (GA, 83 ∷ 77 ∷ 63 ∷ 71 ∷ 65 ∷ [])  -- SM?GA
-    ∷ (GL, 83 ∷ 77 ∷ 63 ∷ 71 ∷ 76 ∷ [])  -- SM?GL
-    ∷ (KQ, 83 ∷ 77 ∷ 63 ∷ 75 ∷ 81 ∷ [])  -- SM?KQ
+    (RS, text "GL?RS")
+    ∷ (KC, text "SM?KC")
+    ∷ (KR, text "SM?KR")
+    ∷ (KL, text "SM?KL")
+    ∷ (KF, text "SM?KF")
+    ∷ (KX, text "SM?KX")
+    ∷ (KD, text "SM?KD")
+    ∷ (GA, text "SM?GA")
+    ∷ (GL, text "SM?GL")
+    ∷ (KQ, text "SM?KQ")
     ∷ []
 
 -- the command of a header, of those listed

@@ -6,6 +6,7 @@ use Prim.Native.Nat.{ℕ, _-_}
 use native.Mathlib.Nat.{sub-zero}
 use lib.ListN.{length, take}
 use borrow.Author.Tests.{ne-eqb}
+use Rattle.octets.specs.Texts.{text}
 use Rattle.octets.specs.Wrote.{Wrote}
 use Rattle.decimal_writer.specs.Digits.{decimalBytes, longBytes}
 use Rattle.console_prints.proofs.PrintLaws.{last, word, line-written}
@@ -14,7 +15,7 @@ use Rattle.console_answers.specs.Answers.{replyText, answerLine, usableL
 
 -- put_reply
 module _ {d e : List ℕ} {a r : ℕ} where
-  pub no-reply : (s : List ℕ) → length s ≡ 0 → Wrote d a (45 ∷ 10 ∷ []) e r → Wrote d a (replyText s ++ (10 ∷ [])) e r
+  pub no-reply : (s : List ℕ) → length s ≡ 0 → Wrote d a (text "-\n") e r → Wrote d a (replyText s ++ (10 ∷ [])) e r
   unfolding replyText
   no-reply s p w = rw p w
 
@@ -24,15 +25,15 @@ module _ {d e : List ℕ} {a r : ℕ} where
 
 -- put_answer, put_usable, put_other: n is the number of the line
 module _ {d e f : List ℕ} {a r : ℕ} (n : ℕ) (u : Wrote d 0 (longBytes n ++ (32 ∷ [])) e a) where
-  pub other-line : Wrote e a (63 ∷ 10 ∷ []) f r → Wrote d 0 (otherLine n) f r
+  pub other-line : Wrote e a (text "?\n") f r → Wrote d 0 (otherLine n) f r
   unfolding otherLine
   other-line w = line-written (word u (last w))
 
-  pub usable-line : (y : Bool) → y ≡ true → Wrote e a (121 ∷ 101 ∷ 115 ∷ 10 ∷ []) f r → Wrote d 0 (usableLine n y) f r
+  pub usable-line : (y : Bool) → y ≡ true → Wrote e a (text "yes\n") f r → Wrote d 0 (usableLine n y) f r
   unfolding usableLine
   usable-line y p w = rw p (line-written (word u (last w)))
 
-  pub unusable-line : (y : Bool) → y ≡ false → Wrote e a (110 ∷ 111 ∷ 10 ∷ []) f r → Wrote d 0 (usableLine n y) f r
+  pub unusable-line : (y : Bool) → y ≡ false → Wrote e a (text "no\n") f r → Wrote d 0 (usableLine n y) f r
   unfolding usableLine
   unusable-line y p w = rw p (line-written (word u (last w)))
 

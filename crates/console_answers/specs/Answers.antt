@@ -4,6 +4,7 @@ use mathlib.Core.Bool.{Bool, cond}
 use mathlib.Core.List.{List, [], _∷_}
 use lib.Dec.{eqb}
 use lib.ListN.{length, take}
+use Rattle.octets.specs.Texts.{text}
 use Rattle.decimal_writer.specs.Digits.{decimalBytes, longBytes}
 use Rattle.console_prints.specs.Prints.{lineBytes}
 use Rattle.console_states.specs.States.{stateName}
@@ -18,7 +19,7 @@ answerLine n outcome left r = lineBytes (longBytes n ∷ decimalBytes outcome �
 
 -- line number, yes or no
 unfoldable pub usableLine : ℕ → Bool → List ℕ
-usableLine n b = lineBytes (longBytes n ∷ cond b (121 ∷ 101 ∷ 115 ∷ []) (110 ∷ 111 ∷ []) ∷ [])
+usableLine n b = lineBytes (longBytes n ∷ cond b (text "yes") (text "no") ∷ [])
 
 -- line number, ?
 unfoldable pub otherLine : ℕ → List ℕ

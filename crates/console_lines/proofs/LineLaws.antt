@@ -9,6 +9,7 @@ use lib.ListN.{length, getD}
 use types.Run.{OneOf, miss}
 use denote.Enum.Declared.{tagOf}
 use borrow.Author.Tests.{le-leb, lt-leb, le-ltb, lt-ltb, eq-eqb, ne-eqb, not-true, not-false}
+use Rattle.octets.specs.Texts.{text}
 use Rattle.octets.specs.Strings.{sameBytes}
 use Rattle.octets.proofs.Flags.{and-first, and-second}
 use Rattle.decimals.specs.Decimals.{decimal, isNumber}
@@ -122,12 +123,12 @@ module _ (r : List ℕ) where
 pub ruleset lengthLines = (long-part, a-part, long-send, a-send, long-raw, no-raw, a-raw)
 
 -- passed
-module _ (r : List ℕ) (t : Bool) (p : t ≡ sameBytes r (121 ∷ 101 ∷ 115 ∷ [])) where
+module _ (r : List ℕ) (t : Bool) (p : t ≡ sameBytes r (text "yes")) where
   pub says-yes : t ≡ true → Passed 1 ≡ passedLine r
   unfolding passedLine
   says-yes o = rw (← p, o)
 
-  module _ (o : t ≡ false) (u : Bool) (q : u ≡ sameBytes r (110 ∷ 111 ∷ [])) where
+  module _ (o : t ≡ false) (u : Bool) (q : u ≡ sameBytes r (text "no")) where
     pub says-no : u ≡ true → Passed 0 ≡ passedLine r
     unfolding passedLine
     says-no s = rw (← p, o, ← q, s)

@@ -4,6 +4,7 @@ use mathlib.Core.Bool.{cond, _&&_}
 use mathlib.Core.List.{List, [], _∷_}
 use lib.Dec.{eqb, ltb, leb}
 use lib.ListN.{length, getD}
+use Rattle.octets.specs.Texts.{text}
 use Rattle.octets.specs.Strings.{sameBytes}
 use Rattle.decimals.specs.Decimals.{decimal, isNumber}
 use Rattle.fields.specs.Values.{isOctets}
@@ -30,7 +31,7 @@ partLine p r = cond (leb (length r) 1024) (Set p) Other
 
 -- passed yes, passed no
 unfoldable pub passedLine : List ℕ → Line
-passedLine r = cond (sameBytes r (121 ∷ 101 ∷ 115 ∷ [])) (Passed 1) (cond (sameBytes r (110 ∷ 111 ∷ [])) (Passed 0) Other)
+passedLine r = cond (sameBytes r (text "yes")) (Passed 1) (cond (sameBytes r (text "no")) (Passed 0) Other)
 
 -- send X: with checksum and carriage return at most 2,048 bytes
 unfoldable pub sendLine : List ℕ → Line

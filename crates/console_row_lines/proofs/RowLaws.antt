@@ -3,6 +3,7 @@ use mathlib.Core.Path.{_≡_}
 use mathlib.Core.Bool.{Bool, true, false}
 use mathlib.Core.List.{List, [], _∷_, _++_}
 use Prim.Native.Nat.{ℕ, _+_}
+use Rattle.octets.specs.Texts.{text}
 use Rattle.octets.specs.Wrote.{Wrote}
 use Rattle.octets.proofs.Writes.{none}
 use Rattle.decimal_writer.specs.Digits.{decimalBytes}
@@ -21,7 +22,7 @@ module _ {d : List ℕ} {at : ℕ} (k : ℕ) (row : SlotRow) (t : Bool) (p : t �
   unfolding slotLine
   no-slot o = rw (← p, o) (none d at)
 
-  pub slot-printed : {e f g h : List ℕ} {a b c l : ℕ} → t ≡ false → Wrote d at (115 ∷ 108 ∷ 111 ∷ 116 ∷ 32 ∷ []) e a → Wrote e a (decimalBytes (k + 1) ++ (32 ∷ [])) f b
+  pub slot-printed : {e f g h : List ℕ} {a b c l : ℕ} → t ≡ false → Wrote d at (text "slot ") e a → Wrote e a (decimalBytes (k + 1) ++ (32 ∷ [])) f b
       → Wrote f b (decimalBytes (row .state) ++ (32 ∷ [])) g c → Wrote g c (lineBytes (digitsOf (row .kmcid) ∷ digitsOf (row .fingerprint) ∷ digitsOf (row .tvp) ∷ [])) h l → Wrote d at (slotLine k row) h l
   unfolding slotLine
   slot-printed o u v w x = rw (← p, o) (line-written (word u (word v (word w (rest x)))))
@@ -32,7 +33,7 @@ module _ {d : List ℕ} {at : ℕ} (k : ℕ) (row : RegisterRow) (t : Bool) (p :
   unfolding registerLine
   no-register o = rw (← p, o) (none d at)
 
-  pub register-printed : {e f g : List ℕ} {a b c : ℕ} → t ≡ false → Wrote d at (114 ∷ 101 ∷ 103 ∷ 105 ∷ 115 ∷ 116 ∷ 101 ∷ 114 ∷ 32 ∷ []) e a → Wrote e a (decimalBytes (k + 1) ++ (32 ∷ [])) f b
+  pub register-printed : {e f g : List ℕ} {a b c : ℕ} → t ≡ false → Wrote d at (text "register ") e a → Wrote e a (decimalBytes (k + 1) ++ (32 ∷ [])) f b
       → Wrote f b (digitsOf (row .card) ++ (10 ∷ [])) g c → Wrote d at (registerLine k row) g c
   unfolding registerLine
   register-printed o u v w = rw (← p, o) (line-written (word u (word v (last w))))

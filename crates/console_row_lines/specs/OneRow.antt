@@ -2,6 +2,7 @@
 use Prim.Native.Nat.{ℕ, _+_}
 use mathlib.Core.Bool.{cond}
 use mathlib.Core.List.{List, [], _∷_}
+use Rattle.octets.specs.Texts.{text}
 use Rattle.decimal_writer.specs.Digits.{decimalBytes}
 use Rattle.hex_octets.specs.Octets.{digitsOf}
 use Rattle.rows.specs.Slots.{isZeroSlot}
@@ -14,10 +15,10 @@ use Rattle.console_prints.specs.Prints.{lineBytes}
 unfoldable pub slotLine : ℕ → SlotRow → List ℕ
 slotLine k r =
     cond (isZeroSlot r) []
-    (lineBytes ((115 ∷ 108 ∷ 111 ∷ 116 ∷ []) ∷ decimalBytes (k + 1) ∷ decimalBytes (r .state) ∷ digitsOf (r .kmcid) ∷ digitsOf (r .fingerprint) ∷ digitsOf (r .tvp) ∷ []))
+    (lineBytes ((text "slot") ∷ decimalBytes (k + 1) ∷ decimalBytes (r .state) ∷ digitsOf (r .kmcid) ∷ digitsOf (r .fingerprint) ∷ digitsOf (r .tvp) ∷ []))
 
 -- register K CARD
 unfoldable pub registerLine : ℕ → RegisterRow → List ℕ
 registerLine k r =
     cond (isVacant r) []
-    (lineBytes ((114 ∷ 101 ∷ 103 ∷ 105 ∷ 115 ∷ 116 ∷ 101 ∷ 114 ∷ []) ∷ decimalBytes (k + 1) ∷ digitsOf (r .card) ∷ []))
+    (lineBytes ((text "register") ∷ decimalBytes (k + 1) ∷ digitsOf (r .card) ∷ []))

@@ -3,6 +3,7 @@ use mathlib.Core.Path.{_≡_}
 use mathlib.Core.Bool.{Bool, true, false}
 use mathlib.Core.List.{List, [], _∷_, _++_}
 use Prim.Native.Nat.{ℕ, _+_}
+use Rattle.octets.specs.Texts.{text}
 use Rattle.octets.specs.Wrote.{Wrote}
 use Rattle.octets.proofs.Writes.{none}
 use Rattle.decimal_writer.specs.Digits.{decimalBytes, longBytes}
@@ -19,10 +20,10 @@ use Rattle.console_shown_rows.specs.OneRow.{usableShown, slotShown, regi
 
 -- put_usable
 module _ {d e : List ℕ} {a r : ℕ} (y : Bool) where
-  pub yes-shown : y ≡ true → Wrote d a (117 ∷ 115 ∷ 97 ∷ 98 ∷ 108 ∷ 101 ∷ 32 ∷ []) e r → Wrote d a (usableShown y ++ (32 ∷ [])) e r
+  pub yes-shown : y ≡ true → Wrote d a (text "usable ") e r → Wrote d a (usableShown y ++ (32 ∷ [])) e r
   yes-shown p w = rw p w
 
-  pub no-shown : y ≡ false → Wrote d a (117 ∷ 110 ∷ 117 ∷ 115 ∷ 97 ∷ 98 ∷ 108 ∷ 101 ∷ 32 ∷ []) e r → Wrote d a (usableShown y ++ (32 ∷ [])) e r
+  pub no-shown : y ≡ false → Wrote d a (text "unusable ") e r → Wrote d a (usableShown y ++ (32 ∷ [])) e r
   no-shown p w = rw p w
 
 -- put_slot
@@ -31,7 +32,7 @@ module _ {d : List ℕ} {at : ℕ} (k : ℕ) (row : SlotRow) (t : Bool) (p : t �
   unfolding slotShown
   no-slot o = rw (← p, o) (none d at)
 
-  pub slot-shown : {e f g h : List ℕ} {a b c l : ℕ} → t ≡ false → Wrote d at (115 ∷ 108 ∷ 111 ∷ 116 ∷ 32 ∷ []) e a → Wrote e a (decimalBytes (k + 1) ++ (32 ∷ [])) f b
+  pub slot-shown : {e f g h : List ℕ} {a b c l : ℕ} → t ≡ false → Wrote d at (text "slot ") e a → Wrote e a (decimalBytes (k + 1) ++ (32 ∷ [])) f b
       → Wrote f b (stateName (63 ∷ []) (row .state) ++ (32 ∷ [])) g c → Wrote g c (lineBytes (shown (row .kmcid) ∷ shown (row .fingerprint) ∷ shown (row .tvp) ∷ [])) h l → Wrote d at (slotShown k row) h l
   unfolding slotShown
   slot-shown o u v w x = rw (← p, o) (line-written (word u (word v (word w (rest x)))))
@@ -42,13 +43,13 @@ module _ {d : List ℕ} {at : ℕ} (y : Bool) (k : ℕ) (row : RegisterRow) (z :
   unfolding registerShown
   no-register o = rw (← p, o) (none d at)
 
-  pub register-shown : {e f g h : List ℕ} {a b c l : ℕ} → z ≡ false → Wrote d at (114 ∷ 101 ∷ 103 ∷ 105 ∷ 115 ∷ 116 ∷ 101 ∷ 114 ∷ 32 ∷ []) e a → Wrote e a (decimalBytes (k + 1) ++ (32 ∷ [])) f b
+  pub register-shown : {e f g h : List ℕ} {a b c l : ℕ} → z ≡ false → Wrote d at (text "register ") e a → Wrote e a (decimalBytes (k + 1) ++ (32 ∷ [])) f b
       → Wrote f b (usableShown y ++ (32 ∷ [])) g c → Wrote g c (shown (row .card) ++ (10 ∷ [])) h l → Wrote d at (registerShown y k row) h l
   unfolding registerShown
   register-shown o u v w x = rw (← p, o) (line-written (word u (word v (word w (last x)))))
 
 -- put_counts
-pub counts-shown : {d e f g h : List ℕ} {a b c r : ℕ} (t : Tables) → Wrote d 0 (longBytes (t .«slot_count») ++ (32 ∷ [])) e a → Wrote e a (115 ∷ 108 ∷ 111 ∷ 116 ∷ 32 ∷ 114 ∷ 111 ∷ 119 ∷ 115 ∷ 44 ∷ 32 ∷ []) f b
-    → Wrote f b (longBytes (t .«register_count») ++ (32 ∷ [])) g c → Wrote g c (114 ∷ 101 ∷ 103 ∷ 105 ∷ 115 ∷ 116 ∷ 101 ∷ 114 ∷ 32 ∷ 114 ∷ 111 ∷ 119 ∷ 115 ∷ 10 ∷ []) h r → Wrote d 0 (countsShown t) h r
+pub counts-shown : {d e f g h : List ℕ} {a b c r : ℕ} (t : Tables) → Wrote d 0 (longBytes (t .«slot_count») ++ (32 ∷ [])) e a → Wrote e a (text "slot rows, ") f b
+    → Wrote f b (longBytes (t .«register_count») ++ (32 ∷ [])) g c → Wrote g c (text "register rows\n") h r → Wrote d 0 (countsShown t) h r
 unfolding countsShown
 counts-shown t u v w x = line-written (word u (word v (word w (last x))))

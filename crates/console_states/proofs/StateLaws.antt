@@ -4,23 +4,24 @@ use mathlib.Core.List.{List, [], _∷_, _++_}
 use Prim.Native.Nat.{ℕ}
 use native.Mathlib.Omega.{arith}
 use lib.ListN.{List·getD-eq-default}
+use Rattle.octets.specs.Texts.{text}
 use Rattle.octets.specs.Wrote.{Wrote}
 use Rattle.console_states.specs.States.{names, stateName}
 
 module _ {d e : List ℕ} {a r : ℕ} (x : List ℕ) (n : ℕ) where
-  pub free : n ≡ 0 → Wrote d a (70 ∷ 82 ∷ 69 ∷ 69 ∷ 32 ∷ []) e r → Wrote d a (stateName x n ++ (32 ∷ [])) e r
+  pub free : n ≡ 0 → Wrote d a (text "FREE ") e r → Wrote d a (stateName x n ++ (32 ∷ [])) e r
   unfolding stateName
   free p w = rw p w
 
-  pub pending : n ≡ 1 → Wrote d a (80 ∷ 69 ∷ 78 ∷ 68 ∷ 73 ∷ 78 ∷ 71 ∷ 32 ∷ []) e r → Wrote d a (stateName x n ++ (32 ∷ [])) e r
+  pub pending : n ≡ 1 → Wrote d a (text "PENDING ") e r → Wrote d a (stateName x n ++ (32 ∷ [])) e r
   unfolding stateName
   pending p w = rw p w
 
-  pub loading : n ≡ 2 → Wrote d a (76 ∷ 79 ∷ 65 ∷ 68 ∷ 73 ∷ 78 ∷ 71 ∷ 32 ∷ []) e r → Wrote d a (stateName x n ++ (32 ∷ [])) e r
+  pub loading : n ≡ 2 → Wrote d a (text "LOADING ") e r → Wrote d a (stateName x n ++ (32 ∷ [])) e r
   unfolding stateName
   loading p w = rw p w
 
-  pub idle : n ≡ 3 → Wrote d a (73 ∷ 68 ∷ 76 ∷ 69 ∷ 32 ∷ []) e r → Wrote d a (stateName x n ++ (32 ∷ [])) e r
+  pub idle : n ≡ 3 → Wrote d a (text "IDLE ") e r → Wrote d a (stateName x n ++ (32 ∷ [])) e r
   unfolding stateName
   idle p w = rw p w
 

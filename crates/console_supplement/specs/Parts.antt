@@ -4,6 +4,7 @@ use mathlib.Core.Bool.{cond}
 use mathlib.Core.List.{List, [], _∷_}
 use lib.Dec.{eqb}
 use lib.ListN.{length, replicate}
+use Rattle.octets.specs.Texts.{text}
 use Rattle.rows.specs.Lists.{padded}
 use Rattle.rows.specs.declared.Supplement.{Supplement}
 use Rattle.console_verbs.specs.declared.Part.{Part}
@@ -45,15 +46,15 @@ blank = record { clock = replicate 16 0; identity = replicate 128 0; «identity_
 
 -- 20260101T000000Z
 abbrev pub startClock : List ℕ
-startClock = 50 ∷ 48 ∷ 50 ∷ 54 ∷ 48 ∷ 49 ∷ 48 ∷ 49 ∷ 84 ∷ 48 ∷ 48 ∷ 48 ∷ 48 ∷ 48 ∷ 48 ∷ 90 ∷ []
+startClock = text "20260101T000000Z"
 
 -- SMID.1:Prism:12345678:20130303T153830Z:E7C42215AF1FE951:9C7D (001 example 6.3.4.4)
 abbrev pub startIdentity : List ℕ
-startIdentity = 83 ∷ 77 ∷ 73 ∷ 68 ∷ 46 ∷ 49 ∷ 58 ∷ 80 ∷ 114 ∷ 105 ∷ 115 ∷ 109 ∷ 58 ∷ 49 ∷ 50 ∷ 51 ∷ 52 ∷ 53 ∷ 54 ∷ 55 ∷ 56 ∷ 58 ∷ 50 ∷ 48 ∷ 49 ∷ 51 ∷ 48 ∷ 51 ∷ 48 ∷ 51 ∷ 84 ∷ 49 ∷ 53 ∷ 51 ∷ 56 ∷ 51 ∷ 48 ∷ 90 ∷ 58 ∷ 69 ∷ 55 ∷ 67 ∷ 52 ∷ 50 ∷ 50 ∷ 49 ∷ 53 ∷ 65 ∷ 70 ∷ 49 ∷ 70 ∷ 69 ∷ 57 ∷ 53 ∷ 49 ∷ 58 ∷ 57 ∷ 67 ∷ 55 ∷ 68 ∷ []
+startIdentity = text "SMID.1:Prism:12345678:20130303T153830Z:E7C42215AF1FE951:9C7D"
 
 -- VKLOAD.REQ.1
 abbrev pub startRequest : List ℕ
-startRequest = 86 ∷ 75 ∷ 76 ∷ 79 ∷ 65 ∷ 68 ∷ 46 ∷ 82 ∷ 69 ∷ 81 ∷ 46 ∷ 49 ∷ []
+startRequest = text "VKLOAD.REQ.1"
 
 unfoldable pub startSupplement : Supplement
 startSupplement = withPart LoadRequest startRequest (withPart Identity startIdentity (withPart Clock startClock blank))

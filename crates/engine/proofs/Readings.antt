@@ -3,6 +3,7 @@ use mathlib.Core.Path.{_≡_, refl}
 use mathlib.Core.Bool.{true}
 use mathlib.Core.List.{List, [], _∷_}
 use Prim.Native.Nat.{ℕ}
+use Rattle.octets.specs.Texts.{text}
 use Rattle.octets.proofs.Flags.{nope}
 use Rattle.identities.specs.Identities.{nameIn}
 use Rattle.stored_cards.specs.Stored.{inRow}
@@ -19,37 +20,37 @@ use Rattle.engine.specs.Words.{requestOf, isAccepted, itemFor, itemOf}
 -- q is a request and a an accepted answer to it
 module _ (q a : List ℕ) (y : isAccepted a ≡ true) where
   -- GL?RS
-  pub rs-read : headerOf q ≡ (71 ∷ 76 ∷ 63 ∷ 82 ∷ 83 ∷ []) → itemOf q a ≡ (rs ⇒ done)
+  pub rs-read : headerOf q ≡ (text "GL?RS") → itemOf q a ≡ (rs ⇒ done)
   unfolding commandOf headers
   rs-read h = rw (h, y) refl
 
   -- SM?KC, of the KMCID in the KMC identity of its record
-  pub kc-read : headerOf q ≡ (83 ∷ 77 ∷ 63 ∷ 75 ∷ 67 ∷ []) → itemOf q a ≡ (kc (nameIn (kmcIdentityIn (firstText (fieldsIn q)))) ⇒ done)
+  pub kc-read : headerOf q ≡ (text "SM?KC") → itemOf q a ≡ (kc (nameIn (kmcIdentityIn (firstText (fieldsIn q)))) ⇒ done)
   unfolding commandOf headers slotIn
   kc-read h = rw (h, y) refl
 
   -- SM?KR, of the KMCID in the KMC identity of its record
-  pub kr-read : headerOf q ≡ (83 ∷ 77 ∷ 63 ∷ 75 ∷ 82 ∷ []) → itemOf q a ≡ (kr (nameIn (kmcIdentityIn (firstText (fieldsIn q)))) ⇒ done)
+  pub kr-read : headerOf q ≡ (text "SM?KR") → itemOf q a ≡ (kr (nameIn (kmcIdentityIn (firstText (fieldsIn q)))) ⇒ done)
   unfolding commandOf headers slotIn
   kr-read h = rw (h, y) refl
 
   -- SM?KL, of its slot field and the card in its KEY.1 record; its answer's register, and the answer's card with zeros after it
-  pub kl-read : headerOf q ≡ (83 ∷ 77 ∷ 63 ∷ 75 ∷ 76 ∷ [])
+  pub kl-read : headerOf q ≡ (text "SM?KL")
       → itemOf q a ≡ (kl (firstText (fieldsIn q)) (groupIn (cardIn (secondText (fieldsIn q)))) (revisionIn (cardIn (secondText (fieldsIn q)))) ⇒ loaded (registerIn (fieldsOf a)) (inRow (secondText (fieldsOf a))))
   unfolding commandOf headers slotIn recordIn
   kl-read h = rw (h, y) refl
 
   -- SM?KF, SM?KX, of their slot field
-  pub kf-read : headerOf q ≡ (83 ∷ 77 ∷ 63 ∷ 75 ∷ 70 ∷ []) → itemOf q a ≡ (kf (firstText (fieldsIn q)) ⇒ done)
+  pub kf-read : headerOf q ≡ (text "SM?KF") → itemOf q a ≡ (kf (firstText (fieldsIn q)) ⇒ done)
   unfolding commandOf headers slotIn
   kf-read h = rw (h, y) refl
 
-  pub kx-read : headerOf q ≡ (83 ∷ 77 ∷ 63 ∷ 75 ∷ 88 ∷ []) → itemOf q a ≡ (kx (firstText (fieldsIn q)) ⇒ done)
+  pub kx-read : headerOf q ≡ (text "SM?KX") → itemOf q a ≡ (kx (firstText (fieldsIn q)) ⇒ done)
   unfolding commandOf headers slotIn
   kx-read h = rw (h, y) refl
 
   -- SM?KD, of its register field
-  pub kd-read : headerOf q ≡ (83 ∷ 77 ∷ 63 ∷ 75 ∷ 68 ∷ []) → itemOf q a ≡ (kd (registerIn (fieldsIn q)) ⇒ done)
+  pub kd-read : headerOf q ≡ (text "SM?KD") → itemOf q a ≡ (kd (registerIn (fieldsIn q)) ⇒ done)
   unfolding commandOf headers
   kd-read h = rw (h, y) refl
 

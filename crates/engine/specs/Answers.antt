@@ -3,6 +3,7 @@ use Prim.Native.Nat.{ℕ, _+_, _-_}
 use mathlib.Core.List.{List, [], _∷_, _++_, map}
 use mathlib.Core.Option.{Option, none, some}
 use lib.ListN.{length, set, drop}
+use Rattle.octets.specs.Texts.{text}
 use Rattle.fields.specs.Values.{Value, number, string}
 use Rattle.frames.specs.Frames.{headerOf}
 use Rattle.responses.specs.Responses.{responseBytes}
@@ -37,13 +38,11 @@ pub record Answer : Type 0 where
 abbrev pub bufferAfter : List ℕ → List ℕ → List ℕ
 bufferAfter response buffer = response ++ drop (length response) buffer
 
--- "GL!ER"
 abbrev pub errorHeader : List ℕ
-errorHeader = 71 ∷ 76 ∷ 33 ∷ 69 ∷ 82 ∷ []
+errorHeader = text "GL!ER"
 
--- "00"
 abbrev pub accepted : List ℕ
-accepted = 48 ∷ 48 ∷ []
+accepted = text "00"
 
 -- a slot in another state, TVP cleared
 abbrev pub slotsMoved : SlotState → List ℕ → List SlotRow → List SlotRow

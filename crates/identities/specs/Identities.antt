@@ -2,6 +2,7 @@
 use Prim.Native.Nat.{ℕ}
 use mathlib.Core.Bool.{Bool, _&&_}
 use mathlib.Core.List.{List, [], _∷_}
+use Rattle.octets.specs.Texts.{text}
 use Rattle.records.specs.Records.{field, isRecord}
 use Rattle.forms.specs.Forms.{inForm}
 use Rattle.forms.specs.declared.Form.the-variants.{Timestamp, Hex, Name}
@@ -9,13 +10,11 @@ use Rattle.forms.specs.declared.Form.the-variants.{Timestamp, Hex, Name}
 abbrev pub colon : ℕ
 colon = 58
 
--- "KMCID.1"
 abbrev pub kmcid1 : List ℕ
-kmcid1 = 75 ∷ 77 ∷ 67 ∷ 73 ∷ 68 ∷ 46 ∷ 49 ∷ []
+kmcid1 = text "KMCID.1"
 
--- "SMID.1"
 abbrev pub smid1 : List ℕ
-smid1 = 83 ∷ 77 ∷ 73 ∷ 68 ∷ 46 ∷ 49 ∷ []
+smid1 = text "SMID.1"
 
 -- the identity of a key management centre parses
 abbrev pub isKmcIdentity : List ℕ → Bool

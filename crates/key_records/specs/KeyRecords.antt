@@ -2,6 +2,7 @@
 use Prim.Native.Nat.{ℕ}
 use mathlib.Core.Bool.{Bool, _&&_}
 use mathlib.Core.List.{List, [], _∷_}
+use Rattle.octets.specs.Texts.{text}
 use Rattle.records.specs.Records.{field, isRecord}
 use Rattle.incoming_cards.specs.Incoming.{isIncoming}
 use Rattle.identities.specs.Identities.{isKmcIdentity, isModuleIdentity, identityInForm}
@@ -12,17 +13,14 @@ use Rattle.forms.specs.declared.Form.the-variants.{Timestamp, Hex, HexSome, Emp
 abbrev pub bar : ℕ
 bar = 124
 
--- "PK.ECDH.1"
 abbrev pub pkEcdh1 : List ℕ
-pkEcdh1 = 80 ∷ 75 ∷ 46 ∷ 69 ∷ 67 ∷ 68 ∷ 72 ∷ 46 ∷ 49 ∷ []
+pkEcdh1 = text "PK.ECDH.1"
 
--- "VKLOAD.RESP.1"
 abbrev pub vkloadResp1 : List ℕ
-vkloadResp1 = 86 ∷ 75 ∷ 76 ∷ 79 ∷ 65 ∷ 68 ∷ 46 ∷ 82 ∷ 69 ∷ 83 ∷ 80 ∷ 46 ∷ 49 ∷ []
+vkloadResp1 = text "VKLOAD.RESP.1"
 
--- "KEY.1"
 abbrev pub key1 : List ℕ
-key1 = 75 ∷ 69 ∷ 89 ∷ 46 ∷ 49 ∷ []
+key1 = text "KEY.1"
 
 -- a public key (003 clause 7.2): KMC identity, public key, expiry, two empty fields
 unfoldable pub parsesPublicKey : List ℕ → Bool

@@ -1,8 +1,9 @@
 -- How a refusal is told (document 01, Questions in order): what an entry of the code's table stands for.
 use Prim.Native.Nat.{ℕ}
 use mathlib.Core.Bool.{cond}
-use mathlib.Core.List.{List, [], _∷_}
+use mathlib.Core.List.{List, [], _∷_, _++_}
 use lib.Dec.{leb}
+use Rattle.octets.specs.Texts.{text}
 use Rattle.fields.specs.Values.{Value, string}
 use Rattle.engine.specs.Refusals.{Header, silent, general, own, Told, extended, km}
 use Rattle.refusal_numbers.specs.declared.Entry.{Entry}
@@ -21,7 +22,7 @@ statusIn (Module d) = extended
 
 -- SM.3B. and a digit's character
 abbrev pub sm : ℕ → List Value
-sm d = string (83 ∷ 77 ∷ 46 ∷ 51 ∷ 66 ∷ 46 ∷ d ∷ []) ∷ []
+sm d = string (text "SM.3B." ++ (d ∷ [])) ∷ []
 
 -- the text of the refusal with number n
 abbrev pub textIn : Telling → ℕ → List Value

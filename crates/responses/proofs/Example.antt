@@ -2,6 +2,7 @@
 use mathlib.Core.Path.{refl}
 use mathlib.Core.List.{List, [], _∷_}
 use Prim.Native.Nat.{ℕ}
+use Rattle.octets.specs.Texts.{text}
 use Rattle.crc.specs.Crc.{crcBit, crcEight, crcByte}
 use Rattle.hexadecimal.specs.Hex.{hexValue, fromDigits, readHex4}
 use Rattle.checksum.specs.Checksum.{endsInSum}
@@ -11,9 +12,9 @@ use Rattle.frames.specs.Frames.{endsInReturn, isChecked, textOf, headerOf}
 use Rattle.responses.specs.Responses.{statusOf, fieldsOf, Says}
 
 abbrev response : List ℕ
-response = 83 ∷ 77 ∷ 33 ∷ 68 ∷ 73 ∷ 48 ∷ 48 ∷ 80 ∷ 57 ∷ 52 ∷ 48 ∷ 48 ∷ 49 ∷ 50 ∷ 51 ∷ 52 ∷ 126 ∷ 80 ∷ 83 ∷ 84 ∷ 83 ∷ 54 ∷ 53 ∷ 86 ∷ 48 ∷ 48 ∷ 126 ∷ 55 ∷ 52 ∷ 57 ∷ 70 ∷ 13 ∷ []
+response = text "SM!DI00P94001234~PSTS65V00~749F\r"
 
 -- header SM!DI, status 00, fields 94001234 and STS65V00
-pub example : Says response (83 ∷ 77 ∷ 33 ∷ 68 ∷ 73 ∷ []) (48 ∷ 48 ∷ []) (string (57 ∷ 52 ∷ 48 ∷ 48 ∷ 49 ∷ 50 ∷ 51 ∷ 52 ∷ []) ∷ string (83 ∷ 84 ∷ 83 ∷ 54 ∷ 53 ∷ 86 ∷ 48 ∷ 48 ∷ []) ∷ [])
+pub example : Says response (text "SM!DI") (text "00") (string (text "94001234") ∷ string (text "STS65V00") ∷ [])
 unfolding crcBit crcEight crcByte hexValue fromDigits readHex4 endsInSum areAll typed valuesOf endsInReturn isChecked textOf headerOf statusOf fieldsOf
 example = record { returns = refl; checked = refl; header-is = refl; status-is = refl; fields-are = refl }

@@ -8,6 +8,7 @@ use native.Mathlib.Omega.{arith}
 use lib.Dec.{eqb, leb}
 use lib.ListN.{length, drop}
 use borrow.Author.Tests.{eqb-true, le-leb}
+use Rattle.octets.specs.Texts.{text}
 use Rattle.octets.specs.Strings.{isNot, run}
 use Rattle.octets.proofs.Flags.{and-first, and-second, and-both}
 use Rattle.text.specs.Classes.{areAll}
@@ -107,7 +108,7 @@ state-text : (r : SlotRow) → areAll Text (stateText r) ≡ true
 unfolding stateText areAll
 state-text r = go (hasState Pending r) (hasState Loading r)
   where
-    go : (p l : Bool) → areAll Text (cond p (80 ∷ 69 ∷ 78 ∷ 68 ∷ 73 ∷ 78 ∷ 71 ∷ []) (cond l (76 ∷ 79 ∷ 65 ∷ 68 ∷ 73 ∷ 78 ∷ 71 ∷ []) (65 ∷ 67 ∷ 84 ∷ 73 ∷ 86 ∷ 69 ∷ []))) ≡ true
+    go : (p l : Bool) → areAll Text (cond p (text "PENDING") (cond l (text "LOADING") (text "ACTIVE"))) ≡ true
     go true l = refl
     go false true = refl
     go false false = refl

@@ -2,6 +2,7 @@
 use Prim.Native.Nat.{ℕ}
 use mathlib.Core.Bool.{cond, not}
 use mathlib.Core.List.{List, [], _∷_, _++_, map, Perm}
+use Rattle.octets.specs.Texts.{text}
 use Rattle.fields.specs.Values.{Value, number, string, octets}
 use Rattle.rows.specs.Lists.{trimmed, rowsThat, numbersFrom}
 use Rattle.rows.specs.Slots.{hasState, kmcidOf}
@@ -28,8 +29,8 @@ nameFields names = map string names
 -- SM?KQ: the state as 001 prints it: PENDING, LOADING, and ACTIVE for IDLE
 unfoldable pub stateText : SlotRow → List ℕ
 stateText r =
-    cond (hasState Pending r) (80 ∷ 69 ∷ 78 ∷ 68 ∷ 73 ∷ 78 ∷ 71 ∷ [])
-    (cond (hasState Loading r) (76 ∷ 79 ∷ 65 ∷ 68 ∷ 73 ∷ 78 ∷ 71 ∷ []) (65 ∷ 67 ∷ 84 ∷ 73 ∷ 86 ∷ 69 ∷ []))
+    cond (hasState Pending r) (text "PENDING")
+    (cond (hasState Loading r) (text "LOADING") (text "ACTIVE"))
 
 -- state and KMCID; TVP and fingerprint of the KEK; TVP and fingerprint that a response is awaited for. A PENDING row holds the latter two, another row the fingerprint only:
 -- what a row does not hold is the empty string, or no octets

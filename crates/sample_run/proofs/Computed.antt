@@ -1,6 +1,6 @@
 -- The run is what the engine's definition computes, call by call, and so the list of demand 3.
 use mathlib.Core.Path.{_≡_, refl, ap}
-use mathlib.Core.List.{List, [], _∷_, map}
+use mathlib.Core.List.{List, [], _∷_, _++_, map}
 use Rattle.crc.specs.Crc.{crcBit, crcEight, crcByte}
 use Rattle.hexadecimal.specs.Hex.{hexDigit, hexValue, fromDigits, readHex4}
 use Rattle.checksum.specs.Checksum.{sumDigits, endsInSum}
@@ -36,16 +36,38 @@ use Rattle.engine.specs.Answers as answers
 use Rattle.engine.specs.Words.{Lent, rowsAfter, itemAt}
 use Rattle.history.specs.History.{trace}
 use Rattle.history.specs.Model.{Item}
-use Rattle.sample_run.specs.Run.{Stage, stages}
+use Rattle.sample_run.specs.Run.{Stage, centreA, centreB, deletions, stages}
 
 -- each stage follows from the rows before it
 abbrev pub Follows : Lent → List Stage → Type 0
 Follows t [] = Unit {0}
 Follows t (g ∷ gs) = (itemAt t (g .call) ≡ g .item) × (rowsAfter t (g .call) ≡ g .after) × Follows (g .after) gs
 
-pub follows : Follows (emptyRows 2 2) stages
+-- the rows that stages leave
+abbrev rowsLeft : Lent → List Stage → Lent
+rowsLeft t [] = t
+rowsLeft t (g ∷ gs) = rowsLeft (g .after) gs
+
+both : (t : Lent) (gs hs : List Stage) → Follows t gs → Follows (rowsLeft t gs) hs → Follows t (gs ++ hs)
+both t [] hs f k = k
+both t (g ∷ gs) hs f k = (f .0, f .1, both (g .after) gs hs (f .2) k)
+
+first-centre : Follows (emptyRows 2 2) centreA
 unfolding crcBit crcEight crcByte hexDigit hexValue fromDigits readHex4 sumDigits endsInSum isAlphanumeric isMark areAll isIdentifier isUnpadded isNumber isLeap daysIn isDate isTime momentOf timestampOf dateTimeOf isTimestamp isDateTime numberOf isOctets typed valuesOf valueAt nextAt contentBytes endsInReturn isWhole isChecked textOf headerOf payloadOf ending framed requestBytes answered headBytes headers commandOf responseBytes statusOf fieldsOf bodyOf field isRecord isAlgorithm table nameOf valueOf valueOr entryBytes fits isCardFrom isMet isIncoming defaultCard storedValue storedCard inRow isEntryOf isStored identityInForm parsesPublicKey publicKeyInForm parsesResponse responseInForm keyInForm padded trimmed isVacant attributeOf isKeyOf isUnder isRegisterSound isSameKey freeRegister filledRegister withoutSlot isZeroSlot isNamed isFilledSlot isSlotSound isSameSlot freeSlot filledSlot resetSlot isOwned areSound isIdentityRight isLoadRequestRight isWellFormed decDigits decimalBytes areFieldsOf recordIn slotIn sessionPlace storePlace slotNamed areCounts isFilled questions slotsOpened slotsWithout loadedCard cardPlace answers.refused answers.answered answerOf slotIs registerIs isAccepted emptyRows
-follows = (refl, refl, (refl, refl, (refl, refl, (refl, refl, (refl, refl, (refl, refl, (refl, refl, (refl, refl, (refl, refl, (refl, refl, (refl, refl, (refl, refl, tt))))))))))))
+first-centre = (refl, refl, (refl, refl, (refl, refl, (refl, refl, (refl, refl, tt)))))
+
+second-centre : Follows (rowsLeft (emptyRows 2 2) centreA) centreB
+unfolding crcBit crcEight crcByte hexDigit hexValue fromDigits readHex4 sumDigits endsInSum isAlphanumeric isMark areAll isIdentifier isUnpadded isNumber isLeap daysIn isDate isTime momentOf timestampOf dateTimeOf isTimestamp isDateTime numberOf isOctets typed valuesOf valueAt nextAt contentBytes endsInReturn isWhole isChecked textOf headerOf payloadOf ending framed requestBytes answered headBytes headers commandOf responseBytes statusOf fieldsOf bodyOf field isRecord isAlgorithm table nameOf valueOf valueOr entryBytes fits isCardFrom isMet isIncoming defaultCard storedValue storedCard inRow isEntryOf isStored identityInForm parsesPublicKey publicKeyInForm parsesResponse responseInForm keyInForm padded trimmed isVacant attributeOf isKeyOf isUnder isRegisterSound isSameKey freeRegister filledRegister withoutSlot isZeroSlot isNamed isFilledSlot isSlotSound isSameSlot freeSlot filledSlot resetSlot isOwned areSound isIdentityRight isLoadRequestRight isWellFormed decDigits decimalBytes areFieldsOf recordIn slotIn sessionPlace storePlace slotNamed areCounts isFilled questions slotsOpened slotsWithout loadedCard cardPlace answers.refused answers.answered answerOf slotIs registerIs isAccepted emptyRows
+second-centre = (refl, refl, (refl, refl, (refl, refl, tt)))
+
+ends : Follows (rowsLeft (rowsLeft (emptyRows 2 2) centreA) centreB) deletions
+unfolding crcBit crcEight crcByte hexDigit hexValue fromDigits readHex4 sumDigits endsInSum isAlphanumeric isMark areAll isIdentifier isUnpadded isNumber isLeap daysIn isDate isTime momentOf timestampOf dateTimeOf isTimestamp isDateTime numberOf isOctets typed valuesOf valueAt nextAt contentBytes endsInReturn isWhole isChecked textOf headerOf payloadOf ending framed requestBytes answered headBytes headers commandOf responseBytes statusOf fieldsOf bodyOf field isRecord isAlgorithm table nameOf valueOf valueOr entryBytes fits isCardFrom isMet isIncoming defaultCard storedValue storedCard inRow isEntryOf isStored identityInForm parsesPublicKey publicKeyInForm parsesResponse responseInForm keyInForm padded trimmed isVacant attributeOf isKeyOf isUnder isRegisterSound isSameKey freeRegister filledRegister withoutSlot isZeroSlot isNamed isFilledSlot isSlotSound isSameSlot freeSlot filledSlot resetSlot isOwned areSound isIdentityRight isLoadRequestRight isWellFormed decDigits decimalBytes areFieldsOf recordIn slotIn sessionPlace storePlace slotNamed areCounts isFilled questions slotsOpened slotsWithout loadedCard cardPlace answers.refused answers.answered answerOf slotIs registerIs isAccepted emptyRows
+ends = (refl, refl, (refl, refl, (refl, refl, (refl, refl, tt))))
+
+pub follows : Follows (emptyRows 2 2) stages
+follows =
+    both (emptyRows 2 2) centreA (centreB ++ deletions) first-centre
+    (both (rowsLeft (emptyRows 2 2) centreA) centreB deletions second-centre ends)
 
 -- so the list of the calls is the list of the items
 pub read : (t : Lent) (gs : List Stage) → Follows t gs → trace rowsAfter itemAt t (map (λ (g : Stage). g .call) gs) ≡ map (λ (g : Stage). g .item) gs

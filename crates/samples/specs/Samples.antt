@@ -3,6 +3,7 @@ use Prim.Native.Nat.{ℕ}
 use mathlib.Core.Path.{_≡_}
 use mathlib.Core.Bool.{Bool, true, false}
 use mathlib.Core.List.{List, [], _∷_}
+use Rattle.octets.specs.Texts.{text}
 use Rattle.checksum.specs.Checksum.{sumDigits}
 use Rattle.checksum.specs.declared.Kind.the-variants.{Arc}
 use Rattle.fields.specs.Values.{Value, number, string, bad, valuesOf}
@@ -28,19 +29,19 @@ AllHold (x ∷ xs) = Holds x × AllHold xs
 
 unfoldable pub samples : List Sample
 samples =
-    sum [] (48 ∷ 48 ∷ 48 ∷ 48 ∷ [])  -- nothing
-    ∷ sum (49 ∷ 50 ∷ 51 ∷ 52 ∷ 53 ∷ 54 ∷ 55 ∷ 56 ∷ 57 ∷ []) (66 ∷ 66 ∷ 51 ∷ 68 ∷ [])  -- 123456789
-    ∷ sum (83 ∷ 77 ∷ 63 ∷ 68 ∷ 73 ∷ []) (57 ∷ 65 ∷ 53 ∷ 49 ∷ [])  -- SM?DI
-    ∷ reads (78 ∷ 48 ∷ 126 ∷ []) (number 0)  -- N0~
-    ∷ reads (78 ∷ 50 ∷ 49 ∷ 52 ∷ 55 ∷ 52 ∷ 56 ∷ 51 ∷ 54 ∷ 52 ∷ 55 ∷ 126 ∷ []) (number 2147483647)  -- N2147483647~
-    ∷ reads (78 ∷ 50 ∷ 49 ∷ 52 ∷ 55 ∷ 52 ∷ 56 ∷ 51 ∷ 54 ∷ 52 ∷ 56 ∷ 126 ∷ []) bad  -- N2147483648~
-    ∷ reads (78 ∷ 48 ∷ 49 ∷ 126 ∷ []) bad  -- N01~
-    ∷ reads (78 ∷ 126 ∷ []) bad  -- N~
-    ∷ reads (80 ∷ 126 ∷ []) (string [])  -- P~
-    ∷ timestamp (50 ∷ 48 ∷ 48 ∷ 48 ∷ 48 ∷ 50 ∷ 50 ∷ 57 ∷ 84 ∷ 48 ∷ 48 ∷ 48 ∷ 48 ∷ 48 ∷ 48 ∷ 90 ∷ []) true  -- 20000229T000000Z
-    ∷ timestamp (49 ∷ 57 ∷ 48 ∷ 48 ∷ 48 ∷ 50 ∷ 50 ∷ 57 ∷ 84 ∷ 48 ∷ 48 ∷ 48 ∷ 48 ∷ 48 ∷ 48 ∷ 90 ∷ []) false  -- 19000229T000000Z
-    ∷ timestamp (50 ∷ 48 ∷ 49 ∷ 51 ∷ 48 ∷ 51 ∷ 48 ∷ 51 ∷ 84 ∷ 50 ∷ 52 ∷ 48 ∷ 48 ∷ 48 ∷ 48 ∷ 90 ∷ []) false  -- 20130303T240000Z
-    ∷ card (65 ∷ 67 ∷ 84 ∷ 50 ∷ 48 ∷ 49 ∷ 51 ∷ 48 ∷ 55 ∷ 49 ∷ 54 ∷ 84 ∷ 49 ∷ 53 ∷ 49 ∷ 48 ∷ 51 ∷ 49 ∷ 90 ∷ 59 ∷ 66 ∷ 68 ∷ 84 ∷ 50 ∷ 48 ∷ 49 ∷ 51 ∷ 48 ∷ 55 ∷ 49 ∷ 54 ∷ 84 ∷ 49 ∷ 53 ∷ 49 ∷ 48 ∷ 51 ∷ 49 ∷ 90 ∷ 59 ∷ 68 ∷ 75 ∷ 71 ∷ 48 ∷ 52 ∷ 59 ∷ 75 ∷ 69 ∷ 78 ∷ 50 ∷ 53 ∷ 53 ∷ 59 ∷ 75 ∷ 82 ∷ 78 ∷ 54 ∷ 59 ∷ 75 ∷ 84 ∷ 67 ∷ 50 ∷ 59 ∷ 83 ∷ 71 ∷ 67 ∷ 48 ∷ 48 ∷ 48 ∷ 48 ∷ 55 ∷ 53 ∷ 56 ∷ 56 ∷ 50 ∷ 53 ∷ 59 ∷ []) true  -- ACT20130716T151031Z;BDT20130716T151031Z;DKG04;KEN255;KRN6;KTC2;SGC0000758825;
-    ∷ card (65 ∷ 67 ∷ 84 ∷ 50 ∷ 48 ∷ 49 ∷ 51 ∷ 48 ∷ 55 ∷ 49 ∷ 54 ∷ 84 ∷ 49 ∷ 53 ∷ 49 ∷ 48 ∷ 51 ∷ 49 ∷ 90 ∷ 59 ∷ 66 ∷ 68 ∷ 84 ∷ 50 ∷ 48 ∷ 49 ∷ 51 ∷ 48 ∷ 55 ∷ 49 ∷ 54 ∷ 84 ∷ 49 ∷ 53 ∷ 49 ∷ 48 ∷ 51 ∷ 49 ∷ 90 ∷ 59 ∷ 68 ∷ 75 ∷ 71 ∷ 48 ∷ 52 ∷ 59 ∷ 75 ∷ 82 ∷ 78 ∷ 54 ∷ 59 ∷ 75 ∷ 69 ∷ 78 ∷ 50 ∷ 53 ∷ 53 ∷ 59 ∷ 75 ∷ 84 ∷ 67 ∷ 50 ∷ 59 ∷ 83 ∷ 71 ∷ 67 ∷ 48 ∷ 48 ∷ 48 ∷ 48 ∷ 55 ∷ 53 ∷ 56 ∷ 56 ∷ 50 ∷ 53 ∷ 59 ∷ []) false  -- ACT20130716T151031Z;BDT20130716T151031Z;DKG04;KRN6;KEN255;KTC2;SGC0000758825;
-    ∷ card (65 ∷ 67 ∷ 84 ∷ 50 ∷ 48 ∷ 49 ∷ 51 ∷ 48 ∷ 55 ∷ 49 ∷ 54 ∷ 84 ∷ 49 ∷ 53 ∷ 49 ∷ 48 ∷ 51 ∷ 49 ∷ 90 ∷ 59 ∷ 66 ∷ 68 ∷ 84 ∷ 50 ∷ 48 ∷ 49 ∷ 51 ∷ 48 ∷ 55 ∷ 49 ∷ 54 ∷ 84 ∷ 49 ∷ 53 ∷ 49 ∷ 48 ∷ 51 ∷ 49 ∷ 90 ∷ 59 ∷ 68 ∷ 75 ∷ 71 ∷ 48 ∷ 52 ∷ 59 ∷ 75 ∷ 69 ∷ 78 ∷ 50 ∷ 53 ∷ 53 ∷ 59 ∷ 75 ∷ 82 ∷ 78 ∷ 48 ∷ 59 ∷ 75 ∷ 84 ∷ 67 ∷ 50 ∷ 59 ∷ 83 ∷ 71 ∷ 67 ∷ 48 ∷ 48 ∷ 48 ∷ 48 ∷ 55 ∷ 53 ∷ 56 ∷ 56 ∷ 50 ∷ 53 ∷ 59 ∷ []) false  -- ACT20130716T151031Z;BDT20130716T151031Z;DKG04;KEN255;KRN0;KTC2;SGC0000758825;
+    sum [] (text "0000")
+    ∷ sum (text "123456789") (text "BB3D")
+    ∷ sum (text "SM?DI") (text "9A51")
+    ∷ reads (text "N0~") (number 0)
+    ∷ reads (text "N2147483647~") (number 2147483647)
+    ∷ reads (text "N2147483648~") bad
+    ∷ reads (text "N01~") bad
+    ∷ reads (text "N~") bad
+    ∷ reads (text "P~") (string [])
+    ∷ timestamp (text "20000229T000000Z") true
+    ∷ timestamp (text "19000229T000000Z") false
+    ∷ timestamp (text "20130303T240000Z") false
+    ∷ card (text "ACT20130716T151031Z;BDT20130716T151031Z;DKG04;KEN255;KRN6;KTC2;SGC0000758825;") true
+    ∷ card (text "ACT20130716T151031Z;BDT20130716T151031Z;DKG04;KRN6;KEN255;KTC2;SGC0000758825;") false
+    ∷ card (text "ACT20130716T151031Z;BDT20130716T151031Z;DKG04;KEN255;KRN0;KTC2;SGC0000758825;") false
     ∷ []

@@ -6,6 +6,7 @@ use Prim.Native.Nat.{ℕ, _+_, _≤_}
 use native.Mathlib.Omega.{arith}
 use lib.ListN.{length}
 use borrow.Author.Tests.{not-true, not-false}
+use Rattle.octets.specs.Texts.{text}
 use Rattle.octets.specs.Wrote.{Wrote}
 use Rattle.octets.proofs.Writes.{then, none}
 use Rattle.fields.specs.Values.{string, octets, fieldBytes, payloadBytes}
@@ -30,16 +31,16 @@ module _ (k s : List ℕ) (p : s ≡ trimmed k) (a : ℕ) where
 
 -- put_state
 module _ (r : SlotRow) (p : Bool) (e : p ≡ hasState Pending r) (d f : List ℕ) (a b : ℕ) where
-  pub pending-told : p ≡ true → Wrote d a (fieldBytes (string (80 ∷ 69 ∷ 78 ∷ 68 ∷ 73 ∷ 78 ∷ 71 ∷ []))) f b → Wrote d a (fieldBytes (string (stateText r))) f b
+  pub pending-told : p ≡ true → Wrote d a (fieldBytes (string (text "PENDING"))) f b → Wrote d a (fieldBytes (string (stateText r))) f b
   unfolding stateText
   pending-told o w = rw (← e, o) w
 
   module _ (o : p ≡ false) (l : Bool) (q : l ≡ hasState Loading r) where
-    pub loading-told : l ≡ true → Wrote d a (fieldBytes (string (76 ∷ 79 ∷ 65 ∷ 68 ∷ 73 ∷ 78 ∷ 71 ∷ []))) f b → Wrote d a (fieldBytes (string (stateText r))) f b
+    pub loading-told : l ≡ true → Wrote d a (fieldBytes (string (text "LOADING"))) f b → Wrote d a (fieldBytes (string (stateText r))) f b
     unfolding stateText
     loading-told h w = rw (← e, o, ← q, h) w
 
-    pub active-told : l ≡ false → Wrote d a (fieldBytes (string (65 ∷ 67 ∷ 84 ∷ 73 ∷ 86 ∷ 69 ∷ []))) f b → Wrote d a (fieldBytes (string (stateText r))) f b
+    pub active-told : l ≡ false → Wrote d a (fieldBytes (string (text "ACTIVE"))) f b → Wrote d a (fieldBytes (string (stateText r))) f b
     unfolding stateText
     active-told h w = rw (← e, o, ← q, h) w
 

@@ -6,6 +6,7 @@ use Prim.Native.Nat.{ℕ, _+_, _≤_, _<_}
 use native.Mathlib.Omega.{arith}
 use lib.ListN.{length, getD, take, drop}
 use borrow.Author.Tests.{eq-eqb, ne-eqb}
+use Rattle.octets.specs.Texts.{text}
 use Rattle.octets.specs.Wrote.{Wrote}
 use Rattle.octets.proofs.Writes.{then, none}
 use Rattle.fields.specs.Values.{number, fieldBytes, payloadBytes}
@@ -48,8 +49,8 @@ module _ (s : ℕ) where
   owner-told ws owners m i w inv z r h = told-turn oneNumber (take m owners) i _ _ ws _ _ inv (getD owners i 0) _ _ w (rows-cons 0 owners m i 32 z r h)
 
 -- reply_query: head, the slot's fields, the registers' numbers ns, ending
-pub query-replied : {d e f g k : List ℕ} {a b c x : ℕ} (h : List ℕ) (r : SlotRow) (ns : List ℕ) → Wrote d 0 (headBytes h (48 ∷ 48 ∷ [])) e a → a ≡ length h + 2
+pub query-replied : {d e f g k : List ℕ} {a b c x : ℕ} (h : List ℕ) (r : SlotRow) (ns : List ℕ) → Wrote d 0 (headBytes h (text "00")) e a → a ≡ length h + 2
     → Wrote e a (payloadBytes (slotFields r)) f b → b ≤ a + 123 → Wrote f b (payloadBytes (numberFields ns)) g c → c ≤ b + 384
-    → Wrote g c (ending (take c g)) k x → length h + 514 ≤ length d → Wrote d 0 (responseBytes h (48 ∷ 48 ∷ []) (slotFields r ++ numberFields ns)) k x
+    → Wrote g c (ending (take c g)) k x → length h + 514 ≤ length d → Wrote d 0 (responseBytes h (text "00") (slotFields r ++ numberFields ns)) k x
 query-replied h r ns u i v m w n z l =
-    replied-fields h (48 ∷ 48 ∷ []) u i (slotFields r ++ numberFields ns) 507 514 (rw (payload-append (slotFields r) (numberFields ns)) (then v w)) (omega arith) z l (omega arith)
+    replied-fields h (text "00") u i (slotFields r ++ numberFields ns) 507 514 (rw (payload-append (slotFields r) (numberFields ns)) (then v w)) (omega arith) z l (omega arith)

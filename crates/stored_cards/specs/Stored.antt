@@ -4,6 +4,7 @@ use mathlib.Core.Bool.{Bool, cond, _&&_}
 use mathlib.Core.List.{List, [], _∷_, _++_}
 use lib.Dec.{eqb, ltb}
 use lib.ListN.{length, take, drop, replicate}
+use Rattle.octets.specs.Texts.{text}
 use Rattle.octets.specs.Strings.{run, isNot}
 use Rattle.text.specs.Classes.{areAll}
 use Rattle.text.specs.declared.Class.the-variants.{Zero}
@@ -15,11 +16,7 @@ use Rattle.attributes.specs.declared.Attribute.{Attribute}
 -- the default card (001 example 6.3.5.4): CLMFFFFFFFF;IUT20380119T031407Z;SBMFFFF;ULM999999999;
 unfoldable pub defaultCard : List ℕ
 defaultCard =
-    67 ∷ 76 ∷ 77 ∷ 70 ∷ 70 ∷ 70 ∷ 70 ∷ 70 ∷ 70 ∷ 70 ∷ 70 ∷ 59
-    ∷ 73 ∷ 85 ∷ 84 ∷ 50 ∷ 48 ∷ 51 ∷ 56 ∷ 48 ∷ 49 ∷ 49 ∷ 57 ∷ 84 ∷ 48 ∷ 51 ∷ 49 ∷ 52 ∷ 48 ∷ 55 ∷ 90 ∷ 59
-    ∷ 83 ∷ 66 ∷ 77 ∷ 70 ∷ 70 ∷ 70 ∷ 70 ∷ 59
-    ∷ 85 ∷ 76 ∷ 77 ∷ 57 ∷ 57 ∷ 57 ∷ 57 ∷ 57 ∷ 57 ∷ 57 ∷ 57 ∷ 57 ∷ 59
-    ∷ []
+    text "CLMFFFFFFFF;IUT20380119T031407Z;SBMFFFF;ULM999999999;"
 
 -- the value that is stored under a name: the engine's own, else the incoming card's, else the default card's
 unfoldable pub storedValue : List ℕ → List ℕ → List ℕ → List ℕ → List ℕ → ℕ → List ℕ

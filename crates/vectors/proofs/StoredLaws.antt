@@ -5,6 +5,7 @@ use mathlib.Core.List.{List, [], _∷_}
 use Prim.Native.Nat.{ℕ, _≤_}
 use lib.ListN.{length}
 use borrow.Author.Tests.{not-false}
+use Rattle.octets.specs.Texts.{text}
 use Rattle.text.specs.Classes.{areAll, isAlphanumeric, isMark}
 use Rattle.text.specs.Identifiers.{isIdentifier}
 use Rattle.decimals.specs.Decimals.{isNumber, isUnpadded}
@@ -17,10 +18,10 @@ abbrev nought : List ℕ
 nought = 48 ∷ []
 
 abbrev check : List ℕ
-check = 57 ∷ 50 ∷ 69 ∷ 49 ∷ 48 ∷ 49 ∷ []
+check = text "92E101"
 
 abbrev slot : List ℕ
-slot = 75 ∷ 77 ∷ 67 ∷ 49 ∷ []
+slot = text "KMC1"
 
 module _ (s : List ℕ) (t : Bool) (p : t ≡ isIncoming s) (o : not t ≡ false) where
   pub fits : length (storedCard s nought check slot nought) ≤ 256
