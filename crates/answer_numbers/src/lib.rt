@@ -6,6 +6,7 @@ use lent_rows::SlotTable;
 use rows::Supplement;
 use rows::Tables;
 ghost use mathlib.Core.Path.{_≡_};
+ghost use Prim.Native.Nat.{_≤_};
 ghost use lib.ListN.{length};
 ghost use Rattle.engine.specs.Answers.{answerOf};
 ghost use Rattle.engine.specs.Calls.{callIn, Responded, tablesAfter};
@@ -66,6 +67,7 @@ pub fn answer(
     ensures written { λ a. ⌜ Responded (joined s r) (answerOf (callIn (joined s r) x (now (request .entry)) (length (now (response .entry))))) (now (response .entry)) (a .reply .length) (now (response .exit)) ⌝ }
     ensures slots { λ a. ⌜ a .slots ≡ slotsIn (tablesAfter (joined s r) (answerOf (callIn (joined s r) x (now (request .entry)) (length (now (response .entry)))))) ⌝ }
     ensures registers { λ a. ⌜ a .registers ≡ registersIn (tablesAfter (joined s r) (answerOf (callIn (joined s r) x (now (request .entry)) (length (now (response .entry)))))) ⌝ }
+    ensures fits { λ a. ⌜ a .reply .length ≤ length (now (response .entry)) ⌝ }
 {
     let slots = s.rows;
     let registers = r.rows;

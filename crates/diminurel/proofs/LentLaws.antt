@@ -1,7 +1,7 @@
 -- Over lent rows of any number the tables by value are answered as the rows themselves: where the counts are in range the rows in the tables are the lent ones, and where they are not all is refused with 1, and every row stays.
 use mathlib.Core.Path.{_≡_, refl, sym, ap, subst, _∙_}
 use mathlib.Core.Bool.{Bool, true, false}
-use mathlib.Core.List.{List, Perm·refl}
+use mathlib.Core.List.{List, [], Perm·refl}
 use Prim.Native.Nat.{ℕ, _≤_}
 use native.Mathlib.Omega.{arith}
 use lib.ListN.{length, take-append-drop}
@@ -22,7 +22,8 @@ use Rattle.core.proofs.EntryLists.{counted}
 use Rattle.lent_rows.specs.Tables.{overlay, freeSlots, freeRegisters, slotTable, registerTable}
 use Rattle.lent_rows.proofs.OverlayLaws.{overlay-front, overlay-others, overlay-back}
 use Rattle.answer_numbers.specs.Joined.{joined}
-use Rattle.diminurel.specs.Lent.{called, LentResponded, lentTables}
+use Rattle.engine.specs.Words.{callOf}
+use Rattle.diminurel.specs.Lent.{LentResponded, lentTables}
 
 -- 8 and 32 places
 slot-places : length freeSlots ≡ 8
@@ -56,7 +57,7 @@ module _ (ys : List SlotRow) (zs : List RegisterRow) where
     inTables = callIn t x q (length b)
 
     abbrev lent : Call
-    lent = called ys zs x q b
+    lent = callOf (record { slots = ys; registers = zs }) (record { request = q; supplement = x; buffer = b; sequence = [] })
 
     -- what is ensured: the outcome, the response in some sequence of the slots, and the rows
     pub record Same : Type 0 where

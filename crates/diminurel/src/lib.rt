@@ -1,35 +1,30 @@
-// The entry points for callers in any language, over the rows that the caller lends, of any number (document 01, "What the caller lends"): the rows are loaded into tables,
-// answered by value and in numbers, and stored back.
+// The entry points for callers in any language, over the rows that the caller lends, of any number (document 01, "What
+// the caller lends"): the rows are loaded into tables, answered by value and in numbers, and stored back.
 use answer_numbers::Reply;
 use rows::RegisterRow;
 use rows::SlotRow;
 use rows::Supplement;
 ghost use mathlib.Core.Path.{_≡_};
-ghost use Rattle.engine.specs.Answers.{answerOf};
-ghost use Rattle.engine.specs.Outcomes.{outcomeNumber};
 ghost use Rattle.engine.specs.Usable.{isUsable};
-ghost use Rattle.answer_numbers.specs.Numbers.{stateByte, yesByte};
-ghost use Rattle.diminurel.specs.Lent.{called, LentResponded, lentTables};
+ghost use Rattle.answer_numbers.specs.Numbers.{yesByte};
+ghost use Rattle.diminurel.specs.Handles.{Handled};
+ghost use Rattle.diminurel.specs.Lent.{lentTables};
 
 // Handles a request.
 #[no_mangle]
 pub extern "C" fn diminurel_handle(
     slots: &mut [SlotRow],
     registers: &mut [RegisterRow],
-    x: Supplement,
+    supplement: Supplement,
     request: &[u8],
     response: &mut [u8],
 ) -> Reply
-    ensures { λ a. ⌜ a .outcome ≡ outcomeNumber (answerOf (called (now (slots .entry)) (now (registers .entry)) x (now (request .entry)) (now (response .entry))) .outcome) ⌝ }
-    ensures state { λ a. ⌜ a .state ≡ stateByte (answerOf (called (now (slots .entry)) (now (registers .entry)) x (now (request .entry)) (now (response .entry))) .outcome) ⌝ }
-    ensures written { λ a. ⌜ LentResponded (now (slots .entry)) (answerOf (called (now (slots .entry)) (now (registers .entry)) x (now (request .entry)) (now (response .entry)))) (now (response .entry)) (a .length) (now (response .exit)) ⌝ }
-    ensures slots { λ _. ⌜ now (slots .exit) ≡ answerOf (called (now (slots .entry)) (now (registers .entry)) x (now (request .entry)) (now (response .entry))) .slots ⌝ }
-    ensures registers { λ _. ⌜ now (registers .exit) ≡ answerOf (called (now (slots .entry)) (now (registers .entry)) x (now (request .entry)) (now (response .entry))) .registers ⌝ }
+    ensures { λ reply. ⌜ Handled slots registers supplement request response reply ⌝ }
 {
     let a = answer_numbers::answer(
         lent_rows::load_slots(slots),
         lent_rows::load_registers(registers),
-        x,
+        supplement,
         request,
         response,
     );

@@ -15,4 +15,4 @@ answer-spec =
     (λ c κs. search needs)
     (λ c κs. search needs)
     (λ c. search needs)
-    (λ c. (search number-of, (search byte-of, (search responded-of, (search slots-of, search registers-of))))))
+    (λ c. (search number-of, (search byte-of, (search responded-of, (search slots-of, (search registers-of, search needs)))))))

@@ -4,6 +4,7 @@
 use Rattle.walks.proofs.Prelude.{_≡_, refl, sym, _∙_, ap, subst, ℕ, [], _∷_, List, length, URA, fullShare, Ty, named, erased, imm, mut, w8, tyInt, tyRef, tyUnit, Val, vptr, SProp, ent, emp, via, fst∗, id⊢, GName, Lft, Share, ftrue, flft, fobor, fobs, fauth, Memory, Routine, Heap, Env, WpFn, Tables, Atoms, Fun, fact, factI, givenOf, tables, tablesOf, Given, Item, Sq, runs, atRet, ‵, raw, ⋆, _⊛_, _$_, _∵_, !, qed, move, drop, split, join, use0, use1, group, fsplit, fjoin, feqL, suffices, frame, done, agg, whole, sub, look-in, look, store, init, stop, hop, fld, from, load, addr, of-opd, and-then, no-more, assigns, land, returns, enter, alloc1, alloc0, params1, pass1, pass0, free0, fmOf, WpFn-mono, owns, pureI, Is, pointee, u8, RefT, Held, row, opens-slice, closes-slice, sliceTy, sliceVal, slice-vals, MutSlice, ShrSlice, Room, finally, at-slice, heres, codedHoleys, mut-slice-tells, shr-slice-tells, owned, heard, nothing, Vals, onEntry, Meets, tripleOf, Contract, Triple, entered, cited, Stays, stay-slice, gave-slice, stay-dropped, walkOf, goes-slice, goes-gave-slice, goes-dropped, Walks, ends-at, walked, walk-meets, yes, Param, shrSliceOf, plain}
 use denote.Struct.Laws as LL
 use mathlib.Core.List.{_++_}
+use Prim.Native.Nat.{_≤_}
 use denote.Triple.Clauses.{atExit}
 use Rattle.rows.specs.declared.SlotRow.{SlotRow}
 use Rattle.rows.specs.declared.RegisterRow.{RegisterRow}
@@ -160,6 +161,9 @@ module _ {M : Type 1} (𝓤 : URA M) (H : Heap 𝓤) (A : Atoms 𝓤) (mem : Mem
       abbrev Registers : Answered → Type 0
       Registers r = r .registers ≡ registersIn (tablesAfter (joined s t) told)
 
+      abbrev Fits : Answered → Type 0
+      Fits r = r .reply .length ≤ length yO
+
       -- what it is passed, and that it is had
       abbrev to-answer : Answers .Ghost
       to-answer = (((κ₂, (κ₃, tt)), (q₂, (q₃, tt)), tt, (s, (t, (c, (xQ, (xO, tt))))), (sval s ∷ [], (rval t ∷ [], (xval c ∷ [], (slice-vals xQ, (sO ∷ [], tt)))))), tt)
@@ -227,8 +231,8 @@ module _ {M : Type 1} (𝓤 : URA M) (H : Heap 𝓤) (A : Atoms 𝓤) (mem : Mem
             ++ holds MutS l₁ sS ++ unset reply′.mir l₀ ++ []
 
         -- the rows are stored, and the reply is returned
-        rests : (r : Answered) (w : List ℕ) → Is answered.the-row r (aval r ∷ []) → length w ≡ length yO → Number r → State r → Written r w → Slots r → Registers r → Sq W (After r w) (runs (𝓣 .C) (𝓣 .Λ) E mir.t-10 (atRet E Post))
-        rests r w is lenO number state written slots-are registers-are =
+        rests : (r : Answered) (w : List ℕ) → Is answered.the-row r (aval r ∷ []) → length w ≡ length yO → Number r → State r → Written r w → Slots r → Registers r → Fits r → Sq W (After r w) (runs (𝓣 .C) (𝓣 .Λ) E mir.t-10 (atRet E Post))
+        rests r w is lenO number state written slots-are registers-are fits =
             -- the slots are lent to the function that stores them
             assigns ! (addr ! (from ! (fld ! refl (hop ! (look-in ! 47 (sub ! 0 refl (whole !))) (stop !))))) (from ! (stop !)) (init ! 17 refl (tt, tt)) $
             assigns ! (agg ! (and-then ! (value ! 17 refl) (and-then ! (load ! (from ! (fld ! refl (stop !))) (look-in ! 47 (sub ! 1 refl (whole !)))) (no-more !)))) (from ! (stop !)) (init ! 15 refl (tt, (tt, (record { fits = roomS .0 }, tt)))) $
@@ -275,8 +279,15 @@ module _ {M : Type 1} (𝓤 : URA M) (H : Heap 𝓤) (A : Atoms 𝓤) (mem : Mem
 
             ensured : ent 𝓤 (emp 𝓤) (entry.clauses 𝓤 H A mem run (κ₀, (κ₁, (κ₂, (κ₃, tt)))) a .ensures tt (r .reply) (atExit entry.ended (κ₀, (κ₁, (κ₂, (κ₃, tt)))) a (zS, (zR, (tt, (tt, (w, tt)))))))
             ensured =
-                fact-and 𝓤 _ _ (number ∙ ap outcomeNumber (equal .outcome)) (fact-and 𝓤 _ _ (state ∙ ap stateByte (equal .outcome)) (fact-and 𝓤 _ _ (equal .written (r .reply .length) w written)
-                (fact-and 𝓤 _ _ (ap (λ (u : SlotTable). overlay (u .rows) yS) slots-are ∙ equal .slots) (factI 𝓤 _ (emp 𝓤) (ap (λ (u : RegisterTable). overlay (u .rows) yR) registers-are ∙ equal .registers)))))
+                factI 𝓤 _ (emp 𝓤)
+                record {
+                  outcome-is = number ∙ ap outcomeNumber (equal .outcome);
+                  state-is = state ∙ ap stateByte (equal .outcome);
+                  written = equal .written (r .reply .length) w written;
+                  fits = fits;
+                  slots-are = ap (λ (u : SlotTable). overlay (u .rows) yS) slots-are ∙ equal .slots;
+                  registers-are = ap (λ (u : RegisterTable). overlay (u .rows) yR) registers-are ∙ equal .registers;
+                }
 
         begins : Sq W Start (runs (𝓣 .C) (𝓣 .Λ) E mir.t-1 (atRet E Post))
         begins =
@@ -308,15 +319,15 @@ module _ {M : Type 1} (𝓤 : URA M) (H : Heap 𝓤) (A : Atoms 𝓤) (mem : Mem
             calls-on ! (fmOf 𝓤 H (W .laws) 𝓣) answer.ended (answer.clauses 𝓤 H A mem run) answer-known (to-answer .0) tt (asks s-is t-is) aval (LL.tells answered.the-type answered′.the-laws)
             (and-then ! (value ! 33 refl) (and-then ! (value ! 27 refl) (and-then ! (value ! 41 refl) (and-then ! (value ! 39 refl) (and-then ! (value ! 19 refl) (no-more !)))))) (λ r ws is.
             -- [κ₂ and κ₃; what is said of the last values; the `ensures`; the registers; the slots; …; …; …; …; …; …; _19; …]: what it ensures is learned
-            move ! (2 ∷ []) $ use1 W (raw (fact 𝓤 (Number r)) ⊛ raw (fact 𝓤 (State r)) ⊛ raw (fact 𝓤 (Written r (ws .1 .1 .1 .1 .0))) ⊛ raw (fact 𝓤 (Slots r)) ⊛ raw (fact 𝓤 (Registers r))) (id⊢ 𝓤 _) $
-            split ! $ heard ! (Number r) (λ number. split ! $ heard ! (State r) (λ state. split ! $ heard ! (Written r (ws .1 .1 .1 .1 .0)) (λ written. split ! $ heard ! (Slots r) (λ slots-are. heard ! (Registers r) (λ registers-are.
+            move ! (2 ∷ []) $ use1 W (raw (fact 𝓤 (Number r)) ⊛ raw (fact 𝓤 (State r)) ⊛ raw (fact 𝓤 (Written r (ws .1 .1 .1 .1 .0))) ⊛ raw (fact 𝓤 (Slots r)) ⊛ raw (fact 𝓤 (Registers r)) ⊛ raw (fact 𝓤 (Fits r))) (id⊢ 𝓤 _) $
+            split ! $ heard ! (Number r) (λ number. split ! $ heard ! (State r) (λ state. split ! $ heard ! (Written r (ws .1 .1 .1 .1 .0)) (λ written. split ! $ heard ! (Slots r) (λ slots-are. split ! $ heard ! (Registers r) (λ registers-are. heard ! (Fits r) (λ fits.
             -- the tokens are back
             use1 W (‵ (flft κ₂ q₂) ⊛ ‵ (flft κ₃ q₃) ⊛ ‵ ftrue) (id⊢ 𝓤 _) $ split ! $ move ! (1 ∷ []) $ split ! $ move ! (1 ∷ []) $ drop ! $
             -- [κ₃; κ₂; what is said of the last values; …]: the response's last bytes
             move ! (2 ∷ []) $ fsplit ! $ drop ! $ fsplit ! $ drop ! $ fsplit ! $ drop ! $ fsplit ! $ drop ! $ fsplit ! $ fsplit ! $ move ! (1 ∷ 2 ∷ []) $ feqL ! (λ lenO. drop ! $
             -- [the response; κ₃; κ₂; the registers; the slots; …; …; …; …; …; …; _19; …]
             land ! (from ! (stop !)) (init ! 37 refl (LL.lawful answered.the-type answered′.the-laws 𝓤 H A W .typed r _ is .0)) $
-            move ! (4 ∷ 5 ∷ 6 ∷ 7 ∷ 3 ∷ 8 ∷ 9 ∷ 10 ∷ 0 ∷ 2 ∷ 1 ∷ []) $ rests r (ws .1 .1 .1 .1 .0) is lenO number state written slots-are registers-are)))))))))
+            move ! (4 ∷ 5 ∷ 6 ∷ 7 ∷ 3 ∷ 8 ∷ 9 ∷ 10 ∷ 0 ∷ 2 ∷ 1 ∷ []) $ rests r (ws .1 .1 .1 .1 .0) is lenO number state written slots-are registers-are fits))))))))))
 
       walk : ent 𝓤 (onEntry 𝓤 H A entry.signature (κ₀, (κ₁, (κ₂, (κ₃, tt)))) (q₀, (q₁, (q₂, (q₃, tt)))) a at) (WpFn 𝓤 H (𝓣 .C) (𝓣 .Λ) code.function (sS ∷ sR ∷ xval c ∷ sliceVal (xQ .ptr) (length (xQ .now)) ∷ sO ∷ []) Post)
       walk =
