@@ -7,12 +7,13 @@ use Rattle.rows.specs.Reports.{InSomeSequence}
 use Rattle.rows.specs.declared.SlotRow.{SlotRow}
 use Rattle.rows.specs.declared.RegisterRow.{RegisterRow}
 use Rattle.rows.specs.declared.Tables.{Tables}
-use Rattle.engine.specs.Answers.{Answer, bufferAfter}
+use Rattle.engine.specs.Answers.{Answer, response, bufferAfter}
 
 -- the response's length and the buffer after it, SM?GL's list in some sequence of the lent slots
 abbrev pub LentResponded : List SlotRow → Answer → List ℕ → ℕ → List ℕ → Type 0
 LentResponded slots a before n after =
-    InSomeSequence slots (λ (names : List (List ℕ)). (n ≡ length (a .response names)) × (after ≡ bufferAfter (a .response names) before))
+    InSomeSequence slots
+    (λ (names : List (List ℕ)). (n ≡ length (response a names)) × (after ≡ bufferAfter (response a names) before))
 
 -- tables of the very rows that are lent
 abbrev pub lentTables : List SlotRow → List RegisterRow → Tables
