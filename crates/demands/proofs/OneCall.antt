@@ -1,0 +1,106 @@
+-- Demands 1 and 2 follow from what `diminurel_handle` promises of a call.
+use Prim.Native.Nat.{ℕ, _+_, _≤_}
+use mathlib.Core.Path.{_≡_, refl, sym, ap, subst, _∙_}
+use mathlib.Core.Logic.{_↔_, _≢_}
+use mathlib.Core.Bool.{true}
+use mathlib.Core.List.{List, [], _∷_, _++_}
+use mathlib.Core.Option.{Option, none, some}
+use lib.ListN.{length, take, drop}
+use native.Mathlib.Omega.{arith}
+use lib.Seq.{take-at, drop-at}
+use Rattle.responses.specs.Responses.{Reply, Says}
+use Rattle.engine.specs.Refusals.{refusal}
+use Rattle.engine.specs.Questions.{Call, questions, firstNo}
+use Rattle.engine.specs.Answers.{Answer, response, responseOf, bufferAfter, refusalReply, refused, answerTo, answerOf}
+use Rattle.engine.specs.Outcomes.{outcomeNumber}
+use Rattle.engine.specs.Words.{Lent, callOf}
+use Rattle.engine.specs.declared.Refusal.{Refusal}
+use Rattle.engine.specs.declared.Outcome.{Outcome}
+use Rattle.engine.specs.declared.Outcome.the-variants.{Accepted, Done, Refused}
+use Rattle.engine.proofs.QuestionLaws.{all-yes}
+use Rattle.engine.proofs.ReadsBack.{reads-back}
+use Rattle.engine.proofs.AnswerLaws.{first-no-decides, refused-by, refused-keeps, no-reply-exactly}
+use Rattle.answer_cases.proofs.Numbers.{one-number, number-range, answer-zero, answer-within}
+use Rattle.diminurel.specs.Handles.{Run, Handles, handedIn, answerIn}
+use Rattle.demands.specs.Demands.{responseIn, SaysReply, Demand1, Demand2}
+
+module _ (rows : Lent) (run : Run) (left : Lent) (h : Handles rows run left) where
+  abbrev call : Call
+  call = callOf rows (handedIn run)
+
+  abbrev names : List (List ℕ)
+  names = h .written .0
+
+  abbrev bytes : List ℕ
+  bytes = response (answerOf call) names
+
+  size-is : run .size ≡ length bytes
+  size-is = h .written .1 .1 .0
+
+  after-is : run .after ≡ bufferAfter bytes (run .before)
+  after-is = h .written .1 .1 .1
+
+  -- what is read of the buffer is the response, and what lies beyond is as before
+  response-is : responseIn run ≡ bytes
+  response-is = (λ j. take (size-is j) (after-is j)) ∙ take-at bytes (drop (length bytes) (run .before)) (length bytes) refl
+
+  rest-is : drop (run .size) (run .after) ≡ drop (run .size) (run .before)
+  rest-is = (λ j. drop (size-is j) (after-is j)) ∙ drop-at bytes (drop (length bytes) (run .before)) (length bytes) refl ∙ ap (λ (n : ℕ). drop n (run .before)) (sym size-is)
+
+  says : SaysReply (responseIn run) (answerOf call .reply names)
+  says = subst (λ (s : List ℕ). SaysReply s (answerOf call .reply names)) (sym response-is) (go (answerOf call .reply names) refl)
+    where
+      go : (o : Option Reply) → answerOf call .reply names ≡ o → SaysReply (responseOf o) o
+      go none e = refl
+      go (some r) e = subst (λ (o : Option Reply). Says (responseOf o) r) e (reads-back call refl refl names (h .written .1 .0) r e)
+
+  -- a refusal's number is that of its outcome alone
+  numbered : (r : Refusal) → run .outcome ≡ refusal r .number → answerOf call .outcome ≡ Refused r
+  numbered r e = go (answerOf call .outcome) refl
+    where
+      none-is : 0 ≡ refusal r .number → ⊥
+      none-is z = omega (arith, z, number-range r .0)
+
+      go : (o : Outcome) → answerOf call .outcome ≡ o → o ≡ Refused r
+      go (Accepted a) w = absurd (none-is (sym (ap outcomeNumber w) ∙ sym (h .outcome-is) ∙ e))
+      go Done w = absurd (none-is (sym (ap outcomeNumber w) ∙ sym (h .outcome-is) ∙ e))
+      go (Refused q) w = ap Refused (one-number q r (sym (ap outcomeNumber w) ∙ sym (h .outcome-is) ∙ e))
+
+  refusal-is : (r : Refusal) → firstNo (questions call) ≡ some r → answerOf call .reply names ≡ refusalReply (run .request) r
+  unfolding answerOf refused
+  refusal-is r e = rw e refl
+
+  kept : run .outcome ≢ 0 → left ≡ rows
+  kept n = go (answerOf call .outcome) refl
+    where
+      go : (o : Outcome) → answerOf call .outcome ≡ o → left ≡ rows
+      go (Accepted a) e = absurd (n (h .outcome-is ∙ ap outcomeNumber e))
+      go Done e = absurd (n (h .outcome-is ∙ ap outcomeNumber e))
+      go (Refused q) e = let k = refused-keeps call q e in λ j. record { slots = (h .slots-are ∙ k .0) j; registers = (h .registers-are ∙ k .1) j }
+
+  none-written : 1 ≤ run .outcome → run .outcome ≤ 4 → bytes ≡ []
+  none-written l m = ap responseOf (no-reply-exactly call names .1 (subst (λ (n : ℕ). (1 ≤ n) × (n ≤ 4)) (h .outcome-is) (l, m)))
+
+  pub demand1 : Demand1 rows run left
+  demand1 = record {
+    ends = subst (λ (n : ℕ). n ≤ 21) (sym (h .outcome-is)) (answer-within call);
+    keeps = kept;
+    unwritten = λ l m. (size-is ∙ ap length (none-written l m), after-is ∙ ap (λ (s : List ℕ). bufferAfter s (run .before)) (none-written l m));
+    refused = λ r e. subst (SaysReply (responseIn run)) (refusal-is r (refused-by call r (numbered r e))) says;
+    fits = h .fits;
+    beyond = rest-is;
+  }
+
+  first-yes : run .outcome ≡ 0 → firstNo (questions call) ≡ none
+  first-yes z = go (firstNo (questions call)) refl
+    where
+      go : (o : Option Refusal) → firstNo (questions call) ≡ o → o ≡ none
+      go none e = refl
+      go (some r) e = absurd (let w : 0 ≡ refusal r .number = sym z ∙ h .outcome-is ∙ ap outcomeNumber (first-no-decides call r e) in omega (arith, w, number-range r .0))
+
+  pub demand2 : Demand2 rows run
+  demand2 = record {
+    accepted = (first-yes, λ e. h .outcome-is ∙ answer-zero call .1 (all-yes (questions call) e));
+    refused = λ r. (λ e. refused-by call r (numbered r e), λ e. h .outcome-is ∙ ap outcomeNumber (first-no-decides call r e));
+    replied = (names, (h .written .1 .0, says));
+  }
