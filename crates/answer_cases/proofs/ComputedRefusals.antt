@@ -1,6 +1,7 @@
 -- The two cards in whole requests, over rows whose slot is LOADING: the answer is what the definition computes.
 use mathlib.Core.Path.{_≡_, refl}
 use mathlib.Core.List.{List, [], _∷_, map, _++_}
+use mathlib.Core.Option.{some}
 use Prim.Native.Nat.{ℕ}
 use Rattle.octets.specs.Texts.{text}
 use Rattle.crc.specs.Crc.{crcBit, crcEight, crcByte}
@@ -11,10 +12,10 @@ use Rattle.text.specs.Identifiers.{isIdentifier}
 use Rattle.decimals.specs.Decimals.{isUnpadded, isNumber}
 use Rattle.calendar.specs.Calendar.{daysIn, isDate, isTime}
 use Rattle.timestamp.specs.Timestamps.{momentOf, timestampOf, isTimestamp}
-use Rattle.fields.specs.Values.{typed, valuesOf, contentBytes}
-use Rattle.frames.specs.Frames.{endsInReturn, isWhole, isChecked, textOf, headerOf, payloadOf, ending, framed, answered, headBytes}
+use Rattle.fields.specs.Values.{string, typed, valuesOf, contentBytes}
+use Rattle.frames.specs.Frames.{endsInReturn, isWhole, isChecked, textOf, headerOf, payloadOf, ending, framed, answered}
 use Rattle.commands.specs.Commands.{headers, commandOf}
-use Rattle.responses.specs.Responses.{responseBytes}
+use Rattle.responses.specs.Responses.{Reply, replyBytes}
 use Rattle.records.specs.Records.{bodyOf, field, isRecord}
 use Rattle.forms.specs.Forms.{isAlgorithm}
 use Rattle.attributes.specs.Table.{table}
@@ -59,16 +60,19 @@ pub sample-cards : map (λ (q : List ℕ). cardIn (recordIn KL (fieldsIn q))) re
 unfolding areAll typed valuesOf textOf payloadOf field recordIn samples
 sample-cards = refl
 
--- SM!KLEEPKM.10~4705
-abbrev pub refusal10 : List ℕ
-refusal10 = text "SM!KLEEPKM.10~4705\r"
+abbrev pub reply10 : Reply
+reply10 = record { header = text "SM!KL"; status = text "EE"; fields = string (text "KM.10") ∷ [] }
+
+pub reply10-bytes : replyBytes reply10 ≡ text "SM!KLEEPKM.10~4705\r"
+unfolding crcBit crcEight crcByte hexDigit sumDigits contentBytes ending framed replyBytes
+reply10-bytes = refl
 
 -- each is answered so, and every row stays
 abbrev pub EachAnswered : List (List ℕ) → Type 0
 EachAnswered [] = Unit {0}
 EachAnswered (q ∷ qs) =
-    (answerOf (callOf loading (hand q)) ≡ record { outcome = Refused BadForm; response = λ names. refusal10; slots = loading .slots; registers = loading .registers }) × EachAnswered qs
+    (answerOf (callOf loading (hand q)) ≡ record { outcome = Refused BadForm; reply = λ names. some reply10; slots = loading .slots; registers = loading .registers }) × EachAnswered qs
 
 pub each-answered : EachAnswered requests
-unfolding crcBit crcEight crcByte hexDigit hexValue fromDigits readHex4 sumDigits endsInSum isAlphanumeric areAll isIdentifier isUnpadded isNumber daysIn isDate isTime momentOf timestampOf isTimestamp typed valuesOf contentBytes endsInReturn isWhole isChecked textOf headerOf payloadOf ending framed answered headBytes headers commandOf responseBytes bodyOf field isRecord isAlgorithm table nameOf valueOf fits isCardFrom isMet isIncoming identityInForm keyInForm padded trimmed isVacant attributeOf isRegisterSound isSameKey freeRegister isZeroSlot isNamed isFilledSlot isSlotSound isSameSlot freeSlot filledSlot isOwned areSound isIdentityRight isLoadRequestRight isWellFormed areFieldsOf recordIn areCounts questions refused answerOf
+unfolding crcBit crcEight crcByte hexDigit hexValue fromDigits readHex4 sumDigits endsInSum isAlphanumeric areAll isIdentifier isUnpadded isNumber daysIn isDate isTime momentOf timestampOf isTimestamp typed valuesOf contentBytes endsInReturn isWhole isChecked textOf headerOf payloadOf ending framed answered headers commandOf bodyOf field isRecord isAlgorithm table nameOf valueOf fits isCardFrom isMet isIncoming identityInForm keyInForm padded trimmed isVacant attributeOf isRegisterSound isSameKey freeRegister isZeroSlot isNamed isFilledSlot isSlotSound isSameSlot freeSlot filledSlot isOwned areSound isIdentityRight isLoadRequestRight isWellFormed areFieldsOf recordIn areCounts questions refused answerOf
 each-answered = (refl, (refl, tt))

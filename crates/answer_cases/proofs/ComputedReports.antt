@@ -15,9 +15,9 @@ use Rattle.calendar.specs.Calendar.{daysIn, isDate, isTime}
 use Rattle.timestamp.specs.Timestamps.{momentOf, timestampOf, isTimestamp}
 use Rattle.decimal_writer.specs.Digits.{decDigits, decimalBytes}
 use Rattle.fields.specs.Values.{isOctets, typed, valuesOf, contentBytes}
-use Rattle.frames.specs.Frames.{endsInReturn, isWhole, isChecked, textOf, headerOf, payloadOf, ending, framed, answered, headBytes}
+use Rattle.frames.specs.Frames.{endsInReturn, isWhole, isChecked, textOf, headerOf, payloadOf, ending, framed, answered}
 use Rattle.commands.specs.Commands.{headers, commandOf}
-use Rattle.responses.specs.Responses.{responseBytes}
+use Rattle.responses.specs.Responses.{replyBytes}
 use Rattle.records.specs.Records.{bodyOf, field, isRecord}
 use Rattle.forms.specs.Forms.{isAlgorithm}
 use Rattle.attributes.specs.Table.{table}
@@ -34,7 +34,7 @@ use Rattle.rows.specs.Sound.{isOwned, areSound}
 use Rattle.rows.specs.Supplements.{isIdentityRight, isLoadRequestRight, isWellFormed}
 use Rattle.engine.specs.Requests.{areFieldsOf, recordIn, slotIn}
 use Rattle.engine.specs.Questions.{slotNamed, areCounts, isFilled, questions}
-use Rattle.engine.specs.Answers.{refused, listed, answerOf}
+use Rattle.engine.specs.Answers.{response, refused, listed, answerOf}
 use Rattle.engine.specs.Answers as answers
 use Rattle.engine.specs.Words.{Lent, callOf}
 use Rattle.rows.specs.declared.SlotState.the-variants.{Pending, Loading, Idle}
@@ -107,10 +107,10 @@ reports = rowByRow ∷ turned ∷ pendingSlot ∷ idleSlot ∷ filledRegisterSho
 
 abbrev pub EachReported : List Report → Type 0
 EachReported [] = Unit {0}
-EachReported (r ∷ rs) = (answerOf (callOf reported (hand (r .request))) .response (r .sequence) ≡ r .answer) × EachReported rs
+EachReported (r ∷ rs) = (response (answerOf (callOf reported (hand (r .request)))) (r .sequence) ≡ r .answer) × EachReported rs
 
 pub each-reported : EachReported reports
-unfolding crcBit crcEight crcByte hexDigit hexValue fromDigits readHex4 sumDigits endsInSum isAlphanumeric areAll isIdentifier isUnpadded isNumber daysIn isDate isTime momentOf timestampOf isTimestamp typed valuesOf contentBytes endsInReturn isWhole isChecked textOf headerOf payloadOf ending framed answered headBytes headers commandOf responseBytes bodyOf field isRecord isAlgorithm table nameOf valueOf fits isCardFrom isMet isIncoming identityInForm keyInForm padded trimmed isVacant attributeOf isRegisterSound isSameKey freeRegister isZeroSlot isNamed isFilledSlot isSlotSound isSameSlot freeSlot filledSlot isOwned areSound isIdentityRight isLoadRequestRight isWellFormed areFieldsOf recordIn areCounts questions refused answers.answered listed answerOf isStored isEntryOf inRow filledRegister isOctets isUnder isKeyOf slotIn slotNamed isFilled slotNames stateText slotFields queryFields decDigits decimalBytes
+unfolding crcBit crcEight crcByte hexDigit hexValue fromDigits readHex4 sumDigits endsInSum isAlphanumeric areAll isIdentifier isUnpadded isNumber daysIn isDate isTime momentOf timestampOf isTimestamp typed valuesOf contentBytes endsInReturn isWhole isChecked textOf headerOf payloadOf ending framed answered headers commandOf replyBytes bodyOf field isRecord isAlgorithm table nameOf valueOf fits isCardFrom isMet isIncoming identityInForm keyInForm padded trimmed isVacant attributeOf isRegisterSound isSameKey freeRegister isZeroSlot isNamed isFilledSlot isSlotSound isSameSlot freeSlot filledSlot isOwned areSound isIdentityRight isLoadRequestRight isWellFormed areFieldsOf recordIn areCounts questions refused answers.answered listed answerOf isStored isEntryOf inRow filledRegister isOctets isUnder isKeyOf slotIn slotNamed isFilled slotNames stateText slotFields queryFields decDigits decimalBytes
 each-reported = (refl, (refl, (refl, (refl, (refl, (refl, tt))))))
 
 -- which key may vend: that of register 1, under B, where B is IDLE, and not while B is PENDING or LOADING; no register that is free, 0 or beyond the rows

@@ -6,14 +6,11 @@ use mathlib.Core.Option.{some}
 use Prim.Native.Nat.{ℕ, _+_, _<_}
 use lib.ListN.{length, getD, drop}
 use lib.Seq.{getD-set-same}
-use borrow.Author.Tests.{le-leb}
 use Rattle.octets.specs.Texts.{text}
 use Rattle.text.specs.Classes.{areAll}
 use Rattle.decimals.specs.Decimals.{isNumber, isUnpadded}
-use Rattle.fields.specs.Values.{Value, areValues}
+use Rattle.fields.specs.Values.{Value}
 use Rattle.responses.specs.Responses.{fieldsOf}
-use Rattle.responses.proofs.ResponseLaws.{response-fields}
-use Rattle.frames.specs.Frames.{headerOf}
 use Rattle.forms.specs.declared.Form.the-variants.{Timestamp, Algorithm, Number, Digits, Hex, Name}
 use Rattle.cards.specs.Entries.{nameOf, valueOf, orElse, valueOr}
 use Rattle.attributes.specs.Table.{ACT, BDT, CLM, CLU, DKG, IUT, KCV, KEN, KRN, KSL, KTC, SBM, SGC, ULM, VND, table, name, presence}
@@ -29,10 +26,9 @@ use Rattle.rows.specs.Reports.{storedIn}
 use Rattle.rows.specs.declared.RegisterRow.{RegisterRow}
 use Rattle.engine.specs.Requests.{commandIn, fieldsIn, recordIn, slotIn, cardIn, registerIn, secondText}
 use Rattle.engine.specs.Questions.{Call}
-use Rattle.engine.specs.Answers.{accepted, loadedCard, cardPlace, answered, effect, answerOf}
+use Rattle.engine.specs.Answers.{response, loadedCard, cardPlace, answered, effect, answerOf}
 use Rattle.engine.proofs.AnswerLaws.{isYes}
-use Rattle.engine.proofs.AnswerWords.{header-five}
-use Rattle.engine.proofs.Steps.{Yes, yes-of, register-at, is-name, is-card, is-check, is-text, is-low, reply, kl-response}
+use Rattle.engine.proofs.Steps.{Yes, yes-of, register-at, is-name, is-card, is-check, loadFields, load-reads, kl-reply}
 use Rattle.answer_cases.proofs.Accepted.{none-first}
 
 -- "0"
@@ -172,15 +168,13 @@ module _ (x : Call) (c : commandIn (x .request) ≡ KL) (y : isYes (answerOf x .
 
   -- the reply's register is that place, counted from 1, and its card the row's, where the count of registers is the rows'
   module _ (n : x .registerCount ≡ length (x .registers)) (names : List (List ℕ)) where
-    says : fieldsOf (answerOf x .response names) ≡ reply x vs yes
-    says =
-        let v : areValues (reply x vs yes) ≡ true = rw (le-leb (register-at x vs yes .place + 1) 2147483647 (is-low x vs yes n), is-text x vs yes) refl in
-        rw (does, kl-response x vs yes names) (response-fields (headerOf (x .request)) accepted (reply x vs yes) (header-five (x .request) (yes .whole)) refl v)
+    says : fieldsOf (response (answerOf x) names) ≡ loadFields x vs yes
+    says = rw (does, kl-reply x vs yes names) (load-reads x vs yes n)
 
-    pub answered-register : registerIn (fieldsOf (answerOf x .response names)) ≡ place + 1
+    pub answered-register : registerIn (fieldsOf (response (answerOf x) names)) ≡ place + 1
     unfolding cardPlace
     answered-register = rw (says, register-at x vs yes .is) refl
 
-    pub answered-card : row .card ≡ inRow (secondText (fieldsOf (answerOf x .response names)))
+    pub answered-card : row .card ≡ inRow (secondText (fieldsOf (response (answerOf x) names)))
     unfolding filledRegister
     answered-card = rw (says, row-is) refl

@@ -14,7 +14,7 @@ use Rattle.rows.specs.Places.{slotRows}
 use Rattle.rows.specs.Reports.{InSomeSequence}
 use Rattle.rows.specs.declared.Tables.{Tables}
 use Rattle.rows.specs.declared.Supplement.{Supplement}
-use Rattle.engine.specs.Answers.{answerOf, bufferAfter}
+use Rattle.engine.specs.Answers.{response, answerOf, bufferAfter}
 use Rattle.engine.specs.Calls.{callIn, Responded, tablesAfter}
 use Rattle.engine.specs.declared.Outcome.{Outcome}
 use Rattle.hex_octets.specs.Octets.{octetsOf}
@@ -73,8 +73,8 @@ module _ (c : Console) (q r e : List ℕ) (n : ℕ) (z : 2048 ≡ length r) (h :
       → Wrote a 0 (outcomeLine number o (take m (e ++ drop n r))) b i
       → SaysAnswer c number q a b i
   answer-said o m number a b i p (names, (perm, (l, s))) w =
-      let v : Wrote a 0 (outcomeLine number (answerOf (callIn (c .tables) (c .supplement) q (length (take n r))) .outcome) (answerOf (callIn (c .tables) (c .supplement) q (length (take n r))) .response names)) b i =
-      rw (← p, ← whole (answerOf (callIn (c .tables) (c .supplement) q (length (take n r))) .response names) (take n r) r n m l, ← s) w in
+      let v : Wrote a 0 (outcomeLine number (answerOf (callIn (c .tables) (c .supplement) q (length (take n r))) .outcome) (response (answerOf (callIn (c .tables) (c .supplement) q (length (take n r)))) names)) b i =
+      rw (← p, ← whole (response (answerOf (callIn (c .tables) (c .supplement) q (length (take n r)))) names) (take n r) r n m l, ← s) w in
       (names, (perm, rw (← lent) v))
 
 -- send: a text in 2,048 bytes, closed

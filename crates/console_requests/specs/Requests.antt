@@ -7,7 +7,7 @@ use Rattle.octets.specs.Wrote.{Wrote}
 use Rattle.rows.specs.Places.{slotRows}
 use Rattle.rows.specs.Reports.{InSomeSequence}
 use Rattle.engine.specs.Questions.{Call}
-use Rattle.engine.specs.Answers.{answerOf}
+use Rattle.engine.specs.Answers.{response, answerOf}
 use Rattle.engine.specs.Calls.{callIn, tablesAfter}
 use Rattle.console_state.specs.State.{withTables}
 use Rattle.console_state.specs.declared.Console.{Console}
@@ -28,4 +28,6 @@ answeredBy c request = withTables (tablesAfter (c .tables) (answerOf (callBy c r
 -- the line of a request's answer is printed; SM?GL's list is in some sequence
 abbrev pub SaysAnswer : Console → ℕ → List ℕ → List ℕ → List ℕ → ℕ → Type 0
 SaysAnswer c number request before now n =
-    InSomeSequence (slotRows (c .tables)) (λ (names : List (List ℕ)). Wrote before 0 (outcomeLine number (answerOf (callBy c request) .outcome) (answerOf (callBy c request) .response names)) now n)
+    InSomeSequence (slotRows (c .tables))
+    (λ (names : List (List ℕ)).
+    Wrote before 0 (outcomeLine number (answerOf (callBy c request) .outcome) (response (answerOf (callBy c request)) names)) now n)

@@ -18,7 +18,7 @@ use Rattle.rows.specs.declared.Supplement.{Supplement}
 use Rattle.rows.specs.declared.Tables.{Tables}
 use Rattle.engine.specs.Requests.{fieldsIn, registerIn, recordIn, slotIn, cardIn}
 use Rattle.engine.specs.Questions.{Call, placeIn, slotPlace, sessionPlace, slotNamed, registerNumbered}
-use Rattle.engine.specs.Answers.{Answer, accepted, cardPlace, refused, answered, listed, effect, answerOf}
+use Rattle.engine.specs.Answers.{Answer, response, accepted, cardPlace, refused, answered, listed, effect, answerOf}
 use Rattle.engine.specs.Calls.{callIn}
 use Rattle.engine.specs.Decisions.{decisionOf}
 use Rattle.engine.specs.declared.Decision.{Decision}
@@ -95,7 +95,7 @@ module _ (t : Tables) (x : Supplement) (q : List ℕ) (room : ℕ) where
   names = slotNames (slotRows t)
 
   abbrev said : Answer → List ℕ
-  said a = a .response names
+  said a = response a names
 
   shown : (k : ℕ) → decisionOf k₀ ≡ Show k → getD (t .registers) k freeRegister ≡ registerNumbered (registerIn (fieldsIn q)) (registerRows t)
   shown k e =
@@ -110,7 +110,7 @@ module _ (t : Tables) (x : Supplement) (q : List ℕ) (room : ℕ) where
       let h : k < length (slotRows t) = rw (← w) (slot-below (slotIn KQ (fieldsIn q)) (slotRows t) (asked-of k₀ (Query k) e refl .1 .1 .1 .1 .1 .1 .1 .1 .1 .1 .1 .0)) in
       rw w (getD-front (t .«slot_count») (t .slots) k freeSlot h)
 
-  pub response-is : (d : Decision) → decisionOf k₀ ≡ d → responseFor d t x q ≡ answerOf k₀ .response names
+  pub response-is : (d : Decision) → decisionOf k₀ ≡ d → responseFor d t x q ≡ response (answerOf k₀) names
   unfolding refused answered listed recordIn slotIn
   response-is (Refuse r) e = rw (told k₀ r e) refl
   response-is Reset e = ap said (effect-of k₀ Reset e refl)

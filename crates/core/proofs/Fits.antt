@@ -38,7 +38,7 @@ use Rattle.row_index.proofs.LentLaws.{take-short}
 use Rattle.row_index.proofs.OwnerLaws.{owned-by-number}
 use Rattle.rows.specs.declared.Supplement.{Supplement}
 use Rattle.rows.specs.declared.Tables.{Tables}
-use Rattle.engine.specs.Refusals.{Header, silent, general, own, refusal}
+use Rattle.engine.specs.Refusals.{Header, general, own, refusal}
 use Rattle.engine.specs.Requests.{fieldsIn, registerIn, recordIn, slotIn, cardIn, firstText}
 use Rattle.engine.specs.Questions.{Call, areCounts, slotPlace, placeIn, isPlace}
 use Rattle.engine.specs.Calls.{callIn}
@@ -47,7 +47,7 @@ use Rattle.engine.specs.declared.Refusal.{Refusal}
 use Rattle.engine.specs.declared.Decision.{Decision}
 use Rattle.engine.specs.declared.Decision.the-variants.{Refuse, Reset, Pend, Open, Load, Finish, Delete, Clear, Show, Enumerate, Query}
 use Rattle.engine.proofs.DecisionLaws.{commandFor, isRefuse, carried, refused-first}
-use Rattle.engine.proofs.RefusalLaws.{isSilent, isOwn, Group, of-tables, of-message, of-later, refusal-group, tables-silent, message-general}
+use Rattle.engine.proofs.RefusalLaws.{isUnwritten, isOwn, Group, of-tables, of-message, of-later, refusal-group, tables-unwritten, message-general}
 use Rattle.engine.proofs.Steps.{Yes, yes-of, is-short}
 use Rattle.refusals.specs.Tellings.{CanTell}
 use Rattle.refusals.proofs.TellingLaws.{can-tell}
@@ -87,22 +87,21 @@ request-short x e =
     leb-true (x .«request_length») 700 (and-first (leb (x .«request_length») 700) _ (and-second (leb 1 (x .«request_length»)) _ l))
 
 -- a refusal is told where there is room
-silent-tells : (h : Header) (n m : ℕ) → isSilent h ≡ true → CanTell h n m
-silent-tells silent n m e = tt
-silent-tells general n m e = nope (cc)
-silent-tells own n m e = nope (cc)
+unwritten-tells : (h : Option Header) (n m : ℕ) → isUnwritten h ≡ true → CanTell h n m
+unwritten-tells none n m e = tt
+unwritten-tells (some h) n m e = nope (cc)
 
-general-tells : (h : Header) (n m : ℕ) → isOwn h ≡ false → 1024 ≤ m → CanTell h n m
-general-tells silent n m e r = tt
-general-tells general n m e r = r
-general-tells own n m e r = nope (cc)
+general-tells : (h : Option Header) (n m : ℕ) → isOwn h ≡ false → 1024 ≤ m → CanTell h n m
+general-tells none n m e r = tt
+general-tells (some general) n m e r = r
+general-tells (some own) n m e r = nope (cc)
 
 module _ (c : Call) where
   tells : (r : Refusal) → decisionOf c ≡ Refuse r → CanTell (refusal r .header) (length (c .request)) (c .room)
   tells r e = go (refusal-group c r (refused-first c r e))
     where
       go : Group c r → CanTell (refusal r .header) (length (c .request)) (c .room)
-      go (of-tables w) = silent-tells (refusal r .header) (length (c .request)) (c .room) (tables-silent c r w)
+      go (of-tables w) = unwritten-tells (refusal r .header) (length (c .request)) (c .room) (tables-unwritten c r w)
       go (of-message t w) = general-tells (refusal r .header) (length (c .request)) (c .room) (message-general c r w) (leb-true 1024 (c .room) (t .1 .0))
       go (of-later t y w) = can-tell (refusal r .header) (length (c .request)) (c .room) (whole-ten (c .request) (y .0)) (leb-true 1024 (c .room) (t .1 .0))
 

@@ -19,7 +19,7 @@ use Rattle.card_writer.specs.declared.Stored.{Stored}
 use Rattle.row_index.specs.Lent.{cardIn, rowsWith, tablesWith}
 use Rattle.row_index.proofs.LentLaws.{rows-again}
 use Rattle.engine.specs.Questions.{areCounts}
-use Rattle.engine.specs.Answers.{answerOf}
+use Rattle.engine.specs.Answers.{response, answerOf}
 use Rattle.engine.specs.Calls.{callIn, Responded, tablesAfter}
 use Rattle.engine.specs.Decisions.{decisionOf}
 use Rattle.engine.specs.declared.Decision.{Decision}
@@ -73,7 +73,7 @@ module _ (slots : List SlotRow) (n : ℕ) (R : List RegisterRow) (m : ℕ) (x : 
   pub responded : (p : List ℕ) → p ≡ payloadOf q → (l : List RegisterRow) → l ≡ registersAfter d m R x (valuesOf p) → (a b : List ℕ) (k : ℕ) → Wrote a 0 (responseFor d (tablesWith slots n l m) x q) b k → k ≤ length a
       → Responded t (answerOf (callIn t x q room)) a k b
   responded p i l y a b k w h =
-      let e′ : responseFor d (tablesWith slots n l m) x q ≡ answerOf (callIn t x q room) .response (slotNames (slotRows t)) = rw y (same-response d slots n R m x (valuesOf p) q) ∙ response-is t x q room d (sym e) in
+      let e′ : responseFor d (tablesWith slots n l m) x q ≡ response (answerOf (callIn t x q room)) (slotNames (slotRows t)) = rw y (same-response d slots n R m x (valuesOf p) q) ∙ response-is t x q room d (sym e) in
       (slotNames (slotRows t), (Perm·refl (slotNames (slotRows t)), (omega (arith, w .next) ∙ ap length e′, rw e′ at (from-start w (omega (arith, w .next))))))
 
 -- handle: the tables with the cards of their rows are the tables

@@ -7,7 +7,7 @@ use Rattle.rows.specs.Registers.{freeRegister}
 use Rattle.rows.specs.declared.Tables.{Tables}
 use Rattle.history.specs.Model as model
 use Rattle.engine.specs.Questions.{Call}
-use Rattle.engine.specs.Answers.{answerOf}
+use Rattle.engine.specs.Answers.{response, answerOf}
 use Rattle.engine.specs.Calls.{callIn, tablesAfter}
 use Rattle.engine.specs.Words.{tablesOf, itemOf, Handed, answerBytes}
 
@@ -21,7 +21,7 @@ tablesNext t e = tablesAfter t (answerOf (entryCall t e))
 
 -- the item that its request and its answer are read as
 abbrev pub entryItem : Tables → Handed → model.Item
-entryItem t e = itemOf (e .request) (answerBytes (answerOf (entryCall t e) .response (e .sequence)) (e .buffer))
+entryItem t e = itemOf (e .request) (answerBytes (response (answerOf (entryCall t e)) (e .sequence)) (e .buffer))
 
 -- the rows of the tables, read for demand 3
 abbrev pub rowsIn : Tables → model.Tables

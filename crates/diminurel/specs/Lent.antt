@@ -9,7 +9,7 @@ use Rattle.rows.specs.declared.RegisterRow.{RegisterRow}
 use Rattle.rows.specs.declared.Supplement.{Supplement}
 use Rattle.rows.specs.declared.Tables.{Tables}
 use Rattle.engine.specs.Questions.{Call}
-use Rattle.engine.specs.Answers.{Answer, bufferAfter}
+use Rattle.engine.specs.Answers.{Answer, response, bufferAfter}
 use Rattle.engine.specs.Words.{callOf}
 
 -- the call: the very rows that are lent, and as many as they are (the sequence of SM?GL's list is no part of it)
@@ -20,7 +20,8 @@ called slots registers x request buffer =
 -- the response's length and the buffer after it, SM?GL's list in some sequence of the lent slots
 abbrev pub LentResponded : List SlotRow → Answer → List ℕ → ℕ → List ℕ → Type 0
 LentResponded slots a before n after =
-    InSomeSequence slots (λ (names : List (List ℕ)). (n ≡ length (a .response names)) × (after ≡ bufferAfter (a .response names) before))
+    InSomeSequence slots
+    (λ (names : List (List ℕ)). (n ≡ length (response a names)) × (after ≡ bufferAfter (response a names) before))
 
 -- tables of the very rows that are lent
 abbrev pub lentTables : List SlotRow → List RegisterRow → Tables

@@ -1,26 +1,34 @@
--- What every answer keeps to: eighteen yeses are acceptance, a refusal changes no row, nor does a command that only reads them, SM?KR no register, and status 28 needs full registers.
-use mathlib.Core.Path.{_≡_, refl}
+-- What every answer keeps to: eighteen yeses are acceptance, refusals 1 to 4 alone have no reply, a refusal changes no row, nor does a command that only reads them,
+-- SM?KR no register, and status 28 needs full registers.
+use mathlib.Core.Path.{_≡_, refl, ap}
 use mathlib.Core.Logic.{_⊎_, inl, inr, _↔_}
-use mathlib.Core.Bool.{Bool, true, false, cond, _&&_, _||_}
+use mathlib.Core.Bool.{Bool, true, false, cond, not, _&&_, _||_}
 use mathlib.Core.List.{List, [], _∷_}
 use mathlib.Core.Option.{Option, none, some}
-use Prim.Native.Nat.{ℕ, _+_}
-use lib.Dec.{eqb}
+use Prim.Native.Nat.{ℕ, _+_, _≤_}
+use native.Mathlib.Omega.{arith}
+use lib.Dec.{eqb, leb}
+use lib.ListN.{length}
+use borrow.Author.Tests.{leb-true, le-leb}
 use Rattle.octets.proofs.Flags.{nope, and-first, and-second, or-cases}
 use Rattle.fields.specs.Values.{Value}
 use Rattle.commands.specs.declared.Command.{Command}
 use Rattle.commands.specs.declared.Command.the-variants.{RS, KC, KR, KL, KF, KX, KD, GA, GL, KQ, Unknown}
+use Rattle.responses.specs.Responses.{Reply}
+use Rattle.responses.proofs.ResponseLaws.{reply-some}
 use Rattle.rows.specs.Lists.{someRow, firstFrom}
 use Rattle.rows.specs.Registers.{isVacant, isKeyOf}
-use Rattle.engine.specs.Refusals.{refusal}
+use Rattle.engine.specs.Refusals.{Header, general, own, RefusalEntry, refusal}
 use Rattle.engine.specs.Requests.{isAmong, commandIn, fieldsIn, recordIn, slotIn, cardIn}
 use Rattle.engine.specs.Questions.{Call, Question, _otherwise_, asked, isPlace, placeElse, keyPlace, vacantPlace, storePlace, groupIn, revisionIn, questions, firstNo}
-use Rattle.engine.specs.Answers.{answered, listed, effect, refused, answerTo, answerOf}
+use Rattle.engine.specs.Answers.{Answer, response, responseOf, replyUnder, refusalReply, answered, listed, effect, refused, answerTo, answerOf}
+use Rattle.engine.specs.Outcomes.{outcomeNumber}
 use Rattle.engine.specs.declared.Refusal.{Refusal}
 use Rattle.engine.specs.declared.Refusal.the-variants.{NoFreeRegister}
 use Rattle.engine.specs.declared.Outcome.{Outcome}
 use Rattle.engine.specs.declared.Outcome.the-variants.{Accepted, Done, Refused}
-use Rattle.engine.proofs.QuestionLaws.{AllYes, all-yes}
+use Rattle.engine.proofs.QuestionLaws.{AllYes, all-yes, allRefusals, no-listed}
+use Rattle.engine.proofs.RefusalLaws.{isUnwritten}
 
 abbrev pub isYes : Outcome → Bool
 isYes (Accepted a) = true
@@ -87,6 +95,90 @@ module _ (x : Call) where
       go : (o : Option Refusal) (d : Command) → d ≡ KR → answerTo x o d vs .registers ≡ x .registers
       go (some r) d q = refl
       go none d q = rw q refl
+
+-- WHICH ANSWERS HAVE NO REPLY
+abbrev isReply : Option Reply → Bool
+isReply none = false
+isReply (some r) = true
+
+effect-replies : (x : Call) (c : Command) (vs : List Value) (r s : List ℕ) (names : List (List ℕ)) → isReply (effect x c vs r s .reply names) ≡ true
+unfolding answered listed
+effect-replies x RS vs r s names = refl
+effect-replies x KC vs r s names = refl
+effect-replies x KR vs r s names = refl
+effect-replies x KL vs r s names = refl
+effect-replies x KF vs r s names = refl
+effect-replies x KX vs r s names = refl
+effect-replies x KD vs r s names = refl
+effect-replies x GA vs r s names = refl
+effect-replies x GL vs r s names = refl
+effect-replies x KQ vs r s names = refl
+effect-replies x Unknown vs r s names = refl
+
+-- the refusal of every question has a number above 0, and a header just where it is above 4: computed
+abbrev isNumbered : Refusal → Bool
+isNumbered r = leb 1 (refusal r .number) && cond (leb (refusal r .number) 4) (isUnwritten (refusal r .header)) (not (isUnwritten (refusal r .header)))
+
+all-numbered : (x : Call) → allRefusals isNumbered (questions x) ≡ true
+unfolding questions
+all-numbered x = refl
+
+-- the number of one of refusals 1 to 4
+abbrev pub IsUnwritten : ℕ → Type 0
+IsUnwritten n = (1 ≤ n) × (n ≤ 4)
+
+module _ (q : List ℕ) (e : RefusalEntry) where
+  header-none : (h : Option Header) → replyUnder q h e ≡ none → isUnwritten h ≡ true
+  header-none none w = refl
+  header-none (some general) w = nope (cc)
+  header-none (some own) w = nope (cc)
+
+  none-header : (h : Option Header) → isUnwritten h ≡ true → replyUnder q h e ≡ none
+  none-header none w = refl
+  none-header (some h) w = nope (cc)
+
+-- n is the number, b says that there is no header
+by-number : (n : ℕ) (b : Bool) → (leb 1 n && cond (leb n 4) b (not b)) ≡ true → (b ≡ true) ↔ IsUnwritten n
+by-number n b h = (λ u. low (leb n 4) b refl u (and-second (leb 1 n) _ h), λ w. rw (le-leb n 4 (w .1)) at (and-second (leb 1 n) (cond (leb n 4) b (not b)) h))
+  where
+    low : (t u : Bool) → leb n 4 ≡ t → u ≡ true → cond t u (not u) ≡ true → IsUnwritten n
+    low true u w e k = (leb-true 1 n (and-first (leb 1 n) _ h), leb-true n 4 w)
+    low false true w e k = nope (cc)
+    low false false w e k = nope (cc)
+
+refusal-unwritten : (q : List ℕ) (r : Refusal) → isNumbered r ≡ true → (refusalReply q r ≡ none) ↔ IsUnwritten (refusal r .number)
+refusal-unwritten q r h =
+    let k = by-number (refusal r .number) (isUnwritten (refusal r .header)) h in
+    (λ w. k .0 (header-none q (refusal r) (refusal r .header) w), λ w. none-header q (refusal r) (refusal r .header) (k .1 w))
+
+yes-zero : (o : Outcome) → isYes o ≡ true → outcomeNumber o ≡ 0
+yes-zero (Accepted a) y = refl
+yes-zero Done y = refl
+yes-zero (Refused r) y = nope (cc)
+
+module _ (x : Call) (names : List (List ℕ)) where
+  abbrev answer : Option Refusal → Answer
+  answer o = answerTo x o (commandIn (x .request)) (fieldsIn (x .request))
+
+  -- an answer has no reply exactly where its outcome is one of refusals 1 to 4,
+  pub no-reply-exactly : (answerOf x .reply names ≡ none) ↔ IsUnwritten (outcomeNumber (answerOf x .outcome))
+  unfolding answerOf refused
+  no-reply-exactly = go (firstNo (questions x)) refl
+    where
+      done : (a : Option Reply) (o : Outcome) → isReply a ≡ true → isYes o ≡ true → (a ≡ none) ↔ IsUnwritten (outcomeNumber o)
+      done a o i y = (λ w. nope (let z = rw w at i in cc), λ w. absurd (omega (arith, w .0, yes-zero o y)))
+
+      go : (o : Option Refusal) → firstNo (questions x) ≡ o → (answer o .reply names ≡ none) ↔ IsUnwritten (outcomeNumber (answer o .outcome))
+      go (some r) e = refusal-unwritten (x .request) r (no-listed isNumbered (questions x) r (all-numbered x) e)
+      go none e = done (answer none .reply names) (answer none .outcome) (effect-replies x (commandIn (x .request)) (fieldsIn (x .request)) _ _ names) (effect-yes x (commandIn (x .request)) (fieldsIn (x .request)) _ _)
+
+  -- and nothing is written exactly there
+  pub no-bytes-exactly : (length (response (answerOf x) names) ≡ 0) ↔ IsUnwritten (outcomeNumber (answerOf x .outcome))
+  no-bytes-exactly = (λ e. no-reply-exactly .0 (no-bytes (answerOf x .reply names) e), λ w. ap (λ (o : Option Reply). length (responseOf o)) (no-reply-exactly .1 w))
+    where
+      no-bytes : (o : Option Reply) → length (responseOf o) ≡ 0 → o ≡ none
+      no-bytes none e = refl
+      no-bytes (some r) e = absurd (omega (arith, reply-some r))
 
 -- SM?GA, SM?GL and SM?KQ change no row
 effect-reads : (x : Call) (c : Command) (vs : List Value) (r s : List ℕ) → isAmong c (GA ∷ GL ∷ KQ ∷ []) ≡ true → (effect x c vs r s .slots ≡ x .slots) × (effect x c vs r s .registers ≡ x .registers)

@@ -2,8 +2,8 @@
 use mathlib.Core.Path.{_≡_, refl}
 use mathlib.Core.Logic.{_⊎_, inl, inr}
 use mathlib.Core.Bool.{Bool, true, false, not, _&&_}
-use mathlib.Core.List.{List, []}
-use mathlib.Core.Option.{some}
+use mathlib.Core.List.{List}
+use mathlib.Core.Option.{none, some}
 use Prim.Native.Nat.{ℕ, _-_}
 use native.Mathlib.Omega.{arith}
 use lib.Dec.{eqb, leb}
@@ -13,14 +13,14 @@ use Rattle.octets.specs.Strings.{sameBytes}
 use Rattle.octets.proofs.Flags.{and-first, and-second, no, holds}
 use Rattle.fields.specs.Values.{Value}
 use Rattle.frames.specs.Frames.{isWhole, textOf, headerOf}
-use Rattle.responses.specs.Responses.{responseBytes, statusOf}
-use Rattle.responses.proofs.ResponseLaws.{response-status}
+use Rattle.responses.specs.Responses.{Reply, replyBytes, replyTo, responseBytes, statusOf}
+use Rattle.responses.proofs.ResponseLaws.{reply-status, answered-five}
 use Rattle.engine.specs.Refusals.{refusal}
 use Rattle.engine.specs.Questions.{Call, questions, firstNo}
-use Rattle.engine.specs.Answers.{accepted}
+use Rattle.engine.specs.Answers.{accepted, responseOf}
 use Rattle.engine.specs.Words.{isAccepted}
 use Rattle.engine.specs.declared.Refusal.{Refusal}
-use Rattle.engine.proofs.RefusalLaws.{Under, under-error, under-own, Written, bytes, refusal-written}
+use Rattle.engine.proofs.RefusalLaws.{Under, under-error, under-own, Replied, reply, refusal-replied}
 
 -- a whole message has a header of five bytes
 pub header-five : (q : List ℕ) → isWhole q ≡ true → length (headerOf q) ≡ 5
@@ -32,29 +32,32 @@ header-five q e =
 -- status 00 reads as accepted
 pub accepted-said : (h : List ℕ) (vs : List Value) → length h ≡ 5 → isAccepted (responseBytes h accepted vs) ≡ true
 unfolding isAccepted
-accepted-said h vs n = rw (response-status h accepted vs n refl) refl
+accepted-said h vs n = rw (reply-status (replyTo h accepted vs) (answered-five h n) refl) refl
 
 -- a status of two characters, other than 00
 abbrev isOther : List ℕ → Bool
 isOther s = eqb (length s) 2 && not (sameBytes s accepted)
 
-other-said : (h s : List ℕ) (vs : List Value) → length h ≡ 5 → isOther s ≡ true → isAccepted (responseBytes h s vs) ≡ false
+other-said : (r : Reply) → length (r .header) ≡ 5 → isOther (r .status) ≡ true → isAccepted (replyBytes r) ≡ false
 unfolding isAccepted
-other-said h s vs n o =
+other-said r n o =
+    let s = r .status in
     let two : length s ≡ 2 = eqb-true (length s) 2 (and-first (eqb (length s) 2) (not (sameBytes s accepted)) o) in
-    rw (response-status h s vs n two) (no (sameBytes s accepted) (holds (not (sameBytes s accepted)) (and-second (eqb (length s) 2) (not (sameBytes s accepted)) o)))
+    rw (reply-status r n two) (no (sameBytes s accepted) (holds (not (sameBytes s accepted)) (and-second (eqb (length s) 2) (not (sameBytes s accepted)) o)))
 
--- a refusal is told under a header of five bytes
-told-five : (q h : List ℕ) → Under q h → length h ≡ 5
-told-five q h under-error = refl
-told-five q h (under-own y) = header-five q (y .0)
+-- a refusal is replied under a header of five bytes
+under-five : (q h : List ℕ) → Under q h → length h ≡ 5
+under-five q h under-error = refl
+under-five q h (under-own y) = answered-five (headerOf q) (header-five q (y .0))
 
--- the first no decides, and no answer to it is read as accepted
+-- the first no decides, and no response to it is read as accepted
 module _ (x : Call) (r : Refusal) where
-  pub refusal-said : firstNo (questions x) ≡ some r → isAccepted (bytes x r) ≡ false
+  pub refusal-said : firstNo (questions x) ≡ some r → isAccepted (responseOf (reply x r)) ≡ false
   unfolding isAccepted statusOf textOf
-  refusal-said e = go (refusal-written x r (λ (z : Refusal). isOther (refusal z .status)) refl refl e)
+  refusal-said e = go (refusal-replied x r (λ (z : Refusal). isOther (refusal z .status)) refl refl e)
     where
-      go : (bytes x r ≡ []) ⊎ (Written (x .request) (refusal r) (bytes x r) × (isOther (refusal r .status) ≡ true)) → isAccepted (bytes x r) ≡ false
+      go : (reply x r ≡ none) ⊎ (Replied (x .request) (refusal r) (reply x r) × (isOther (refusal r .status) ≡ true)) → isAccepted (responseOf (reply x r)) ≡ false
       go (inl n) = rw n refl
-      go (inr w) = rw (w .0 .is) (other-said (w .0 .header) (refusal r .status) (refusal r .text) (told-five (x .request) (w .0 .header) (w .0 .under)) (w .1))
+      go (inr w) =
+          rw (w .0 .is)
+          (other-said (record { header = w .0 .header; status = refusal r .status; fields = refusal r .fields }) (under-five (x .request) (w .0 .header) (w .0 .under)) (w .1))

@@ -12,20 +12,20 @@ use Rattle.history.specs.Model.{Tables, empty}
 use Rattle.history.specs.Step.{Step}
 use Rattle.history.specs.Demand3.{Demand3}
 use Rattle.history.proofs.Theorem as theorem
-use Rattle.engine.specs.Answers.{answerOf}
+use Rattle.engine.specs.Answers.{response, answerOf}
 use Rattle.engine.specs.Words.{slotIs, registerIs, tablesOf, Handed, Lent, callOf, rowsAfter, answerBytes, itemAt, emptyRows}
 use Rattle.engine.proofs.RowWords.{free-reads, free-register-reads}
 use Rattle.engine.proofs.Steps.{does}
 
 -- the first bytes of the buffer, as many as the response has, are the response
-answer-is : (response buffer : List ℕ) → answerBytes response buffer ≡ response
-answer-is response buffer = take-at response (drop (length response) buffer) (length response) refl
+answer-is : (bytes buffer : List ℕ) → answerBytes bytes buffer ≡ bytes
+answer-is bytes buffer = take-at bytes (drop (length bytes) buffer) (length bytes) refl
 
 abbrev pub rowsOf : Lent → Tables
 rowsOf t = tablesOf (t .slots) (t .registers)
 
 steps : (t : Lent) (e : Handed) → Step (rowsOf t) (itemAt t e) (rowsOf (rowsAfter t e))
-steps t e = rw (answer-is (answerOf (callOf t e) .response (e .sequence)) (e .buffer)) (does (callOf t e) refl (e .sequence))
+steps t e = rw (answer-is (response (answerOf (callOf t e)) (e .sequence)) (e .buffer)) (does (callOf t e) refl (e .sequence))
 
 pub starts-empty : (a b : ℕ) → rowsOf (emptyRows a b) ≡ empty a b
 unfolding emptyRows empty

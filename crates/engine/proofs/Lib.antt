@@ -7,5 +7,6 @@ pub mod Steps
 pub mod Demand3
 pub mod AnswerLaws
 pub mod Readings
+pub mod ReplyLengths
 pub mod ReadsBack
 pub mod DecisionLaws

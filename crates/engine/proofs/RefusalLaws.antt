@@ -1,57 +1,55 @@
--- What is written of a refusal: nothing, or its status and text under GL!ER, or under the request's own header where the message is right.
+-- The reply to a refused request: none, or its status and fields under GL!ER, or under the request's own header where the message is right.
 use mathlib.Core.Path.{_≡_, refl}
 use mathlib.Core.Logic.{_⊎_, inl, inr}
 use mathlib.Core.Bool.{Bool, true, false, not}
 use mathlib.Core.List.{List, [], _++_}
-use mathlib.Core.Option.{some, none}
+use mathlib.Core.Option.{Option, some, none}
 use Prim.Native.Nat.{ℕ}
 use Rattle.octets.proofs.Flags.{nope}
-use Rattle.frames.specs.Frames.{headerOf}
-use Rattle.responses.specs.Responses.{responseBytes}
-use Rattle.engine.specs.Refusals.{Header, silent, general, own, Told, refusal}
+use Rattle.frames.specs.Frames.{headerOf, answered}
+use Rattle.responses.specs.Responses.{Reply}
+use Rattle.engine.specs.Refusals.{Header, general, own, RefusalEntry, refusal}
 use Rattle.engine.specs.Requests.{commandIn, fieldsIn}
 use Rattle.engine.specs.Questions.{Call, Question, tableQuestions, messageQuestions, questions, firstNo}
-use Rattle.engine.specs.Answers.{errorHeader, refusalBytes}
+use Rattle.engine.specs.Answers.{errorHeader, replyUnder, refusalReply}
 use Rattle.engine.specs.Decisions.{laterQuestions}
 use Rattle.engine.specs.declared.Refusal.{Refusal}
 use Rattle.engine.proofs.QuestionLaws.{AllYes, all-yes, no-append, allRefusals, no-listed}
 
--- the header under which a refusal of the request q is told
+-- the header of the reply to a refused request q
 pub data Under (q : List ℕ) : List ℕ → Type 0 where
   under-error : Under q errorHeader
-  under-own : AllYes (messageQuestions q) → Under q (headerOf q)
+  under-own : AllYes (messageQuestions q) → Under q (answered (headerOf q))
 
--- the bytes are the status and text that t tells, under such a header
-pub record Written (q : List ℕ) (t : Told) (bytes : List ℕ) : Type 0 where
+-- a reply of the refusal's status and fields, under such a header
+pub record Replied (q : List ℕ) (e : RefusalEntry) (o : Option Reply) : Type 0 where
   pub header : List ℕ
   pub under : Under q header
-  pub is : bytes ≡ responseBytes header (t .status) (t .text)
+  pub is : o ≡ some (record { header = header; status = e .status; fields = e .fields })
 
-abbrev pub isSilent : Header → Bool
-isSilent silent = true
-isSilent general = false
-isSilent own = false
+abbrev pub isUnwritten : Option Header → Bool
+isUnwritten none = true
+isUnwritten (some h) = false
 
-abbrev pub isOwn : Header → Bool
-isOwn silent = false
-isOwn general = false
-isOwn own = true
+abbrev pub isOwn : Option Header → Bool
+isOwn none = false
+isOwn (some general) = false
+isOwn (some own) = true
 
 not-own : (b : Bool) → not b ≡ true → b ≡ false
 not-own true e = nope (cc)
 not-own false e = refl
 
--- t is what is told of the request q, under the header h
-module _ (q : List ℕ) (t : Told) where
-  quiet : (h : Header) → isSilent h ≡ true → refusalBytes q h t ≡ []
-  quiet silent e = refl
-  quiet general e = nope (cc)
-  quiet own e = nope (cc)
+-- e is the refusal of the request q, and h where it is replied
+module _ (q : List ℕ) (e : RefusalEntry) where
+  unwritten : (h : Option Header) → isUnwritten h ≡ true → replyUnder q h e ≡ none
+  unwritten none w = refl
+  unwritten (some h) w = nope (cc)
 
-  by-header : (h : Header) → (isOwn h ≡ true → AllYes (messageQuestions q)) → (refusalBytes q h t ≡ []) ⊎ Written q t (refusalBytes q h t)
-  by-header silent y = inl refl
-  by-header general y = inr (record { header = errorHeader; under = under-error; is = refl })
-  by-header own y = inr (record { header = headerOf q; under = under-own (y refl); is = refl })
+  by-header : (h : Option Header) → (isOwn h ≡ true → AllYes (messageQuestions q)) → (replyUnder q h e ≡ none) ⊎ Replied q e (replyUnder q h e)
+  by-header none y = inl refl
+  by-header (some general) y = inr (record { header = errorHeader; under = under-error; is = refl })
+  by-header (some own) y = inr (record { header = answered (headerOf q); under = under-own (y refl); is = refl })
 
 -- the group of the question that refused
 module _ (x : Call) (r : Refusal) where
@@ -75,26 +73,26 @@ module _ (x : Call) (r : Refusal) where
       first (inl w) = of-tables w
       first (inr w) = next (all-yes (tableQuestions x) (w .0)) (no-append (messageQuestions (x .request)) later r (w .1))
 
-  -- refusals 1 to 4 are silent, and 5 to 7 not told under the request's own header
-  pub tables-silent : firstNo (tableQuestions x) ≡ some r → isSilent (refusal r .header) ≡ true
-  tables-silent w = no-listed (λ (z : Refusal). isSilent (refusal z .header)) (tableQuestions x) r refl w
+  -- refusals 1 to 4 have no reply, and 5 to 7 none under the request's own header
+  pub tables-unwritten : firstNo (tableQuestions x) ≡ some r → isUnwritten (refusal r .header) ≡ true
+  tables-unwritten w = no-listed (λ (z : Refusal). isUnwritten (refusal z .header)) (tableQuestions x) r refl w
 
   pub message-general : firstNo (messageQuestions (x .request)) ≡ some r → isOwn (refusal r .header) ≡ false
   message-general w = not-own (isOwn (refusal r .header)) (no-listed (λ (z : Refusal). not (isOwn (refusal z .header))) (messageQuestions (x .request)) r refl w)
 
-  -- f is a test that every refusal passes whose response is written
-  abbrev pub bytes : List ℕ
-  bytes = refusalBytes (x .request) (refusal r .header) (refusal r)
+  -- f is a test that every refusal passes that has a reply
+  abbrev pub reply : Option Reply
+  reply = refusalReply (x .request) r
 
-  pub refusal-written : (f : Refusal → Bool) → allRefusals f (messageQuestions (x .request)) ≡ true → allRefusals f later ≡ true → firstNo (questions x) ≡ some r
-      → (bytes ≡ []) ⊎ (Written (x .request) (refusal r) bytes × (f r ≡ true))
-  refusal-written f m l e = go (refusal-group e)
+  pub refusal-replied : (f : Refusal → Bool) → allRefusals f (messageQuestions (x .request)) ≡ true → allRefusals f later ≡ true → firstNo (questions x) ≡ some r
+      → (reply ≡ none) ⊎ (Replied (x .request) (refusal r) reply × (f r ≡ true))
+  refusal-replied f m l e = go (refusal-group e)
     where
-      passed : f r ≡ true → (bytes ≡ []) ⊎ Written (x .request) (refusal r) bytes → (bytes ≡ []) ⊎ (Written (x .request) (refusal r) bytes × (f r ≡ true))
+      passed : f r ≡ true → (reply ≡ none) ⊎ Replied (x .request) (refusal r) reply → (reply ≡ none) ⊎ (Replied (x .request) (refusal r) reply × (f r ≡ true))
       passed p (inl n) = inl n
       passed p (inr w) = inr (w, p)
 
-      go : Group → (bytes ≡ []) ⊎ (Written (x .request) (refusal r) bytes × (f r ≡ true))
-      go (of-tables w) = inl (quiet (x .request) (refusal r) (refusal r .header) (tables-silent w))
+      go : Group → (reply ≡ none) ⊎ (Replied (x .request) (refusal r) reply × (f r ≡ true))
+      go (of-tables w) = inl (unwritten (x .request) (refusal r) (refusal r .header) (tables-unwritten w))
       go (of-message t w) = passed (no-listed f (messageQuestions (x .request)) r m w) (by-header (x .request) (refusal r) (refusal r .header) (λ o. nope (let n = message-general w in cc)))
       go (of-later t y w) = passed (no-listed f later r l w) (by-header (x .request) (refusal r) (refusal r .header) (λ o. y))

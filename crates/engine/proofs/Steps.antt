@@ -15,12 +15,12 @@ use Rattle.timestamp.specs.Timestamps.{isTimestamp}
 use Rattle.text.specs.Identifiers.{isIdentifier}
 use Rattle.text.specs.declared.Class.the-variants.{Text}
 use Rattle.decimals.specs.Decimals.{isNumber, isUnpadded}
-use Rattle.fields.specs.Values.{Value, number, string}
+use Rattle.fields.specs.Values.{Value, number, string, areValues}
 use Rattle.forms.specs.Forms.{inForm}
 use Rattle.forms.specs.declared.Form.the-variants.{Hex, HexSome}
 use Rattle.frames.specs.Frames.{isWhole, headerOf}
-use Rattle.responses.specs.Responses.{responseBytes, fieldsOf}
-use Rattle.responses.proofs.ResponseLaws.{response-fields}
+use Rattle.responses.specs.Responses.{replyTo, responseBytes, fieldsOf}
+use Rattle.responses.proofs.ResponseLaws.{reply-fields, answered-five}
 use Rattle.incoming_cards.specs.Incoming.{isIncoming}
 use Rattle.records.specs.Records.{field}
 use Rattle.identities.specs.Identities.{colon, nameIn, fingerprintIn, identityInForm}
@@ -44,7 +44,7 @@ use Rattle.history.specs.Model.{pending, loading, used, free, key, kl, loaded, 
 use Rattle.history.specs.Step.{Step, refuses, reads, starts, responds, loads, finishes, deletes, clears, resets}
 use Rattle.engine.specs.Requests.{commandIn, fieldsIn, isOneOfTen, registerIn, recordIn, kmcIdentityIn, slotIn, cardIn, firstText}
 use Rattle.engine.specs.Questions.{Call, asked, areCounts, isPlace, slotPlace, sessionPlace, storePlace, slotNamed, placeIn, isFilled, groupIn, revisionIn, questions, firstNo}
-use Rattle.engine.specs.Answers.{Answer, accepted, slotsMoved, slotsOpened, slotsWithout, loadedCard, cardPlace, answered, listed, effect, answerTo, answerOf}
+use Rattle.engine.specs.Answers.{Answer, response, accepted, slotsMoved, slotsOpened, slotsWithout, loadedCard, cardPlace, answered, listed, effect, answerTo, answerOf}
 use Rattle.engine.specs.Answers as answers
 use Rattle.engine.specs.Words.{stateIn, slotIs, registerIs, tablesOf, requestOf, itemFor, isAccepted}
 use Rattle.engine.specs.declared.Refusal.{Refusal}
@@ -59,7 +59,7 @@ Moves x ι a = Step (tablesOf (x .slots) (x .registers)) ι (tablesOf (a .slots)
 
 -- an answer to a call with the command c and the fields vs is a step, whatever sequence SM?GL's list has
 abbrev pub Does : Call → Command → List Value → Answer → Type 0
-Does x c vs a = (names : List (List ℕ)) → Moves x (itemFor (requestOf c vs) (a .response names)) a
+Does x c vs a = (names : List (List ℕ)) → Moves x (itemFor (requestOf c vs) (response a names)) a
 
 -- what is known of an accepted request
 pub record Yes (x : Call) (c : Command) (vs : List Value) : Type 0 where
@@ -253,14 +253,14 @@ module _ (x : Call) (vs : List Value) (y : Yes x KL vs) where
       rw kl-registers
       (loads name (groupIn card) (revisionIn card) (inRow stored) (slot-at .place) i e (rw length-map (register-at .within)) (register-at .home))
 
-  -- a reply's register and card
-  abbrev pub reply : List Value
-  reply = number (register-at .place + 1) ∷ string stored ∷ []
+  -- register and card of the reply
+  abbrev pub loadFields : List Value
+  loadFields = number (register-at .place + 1) ∷ string stored ∷ []
 
-  pub kl-response : (names : List (List ℕ)) → effect x KL vs (recordIn KL vs) name .response names ≡ responseBytes (headerOf (x .request)) accepted reply
+  pub kl-reply : (names : List (List ℕ)) → effect x KL vs (recordIn KL vs) name .reply names ≡ some (replyTo (headerOf (x .request)) accepted loadFields)
   unfolding answered cardPlace
-  kl-response names =
-      ap (λ (o : Option ℕ). responseBytes (headerOf (x .request)) accepted (number (placeIn (x .registers) o + 1) ∷ string stored ∷ [])) (register-at .is)
+  kl-reply names =
+      ap (λ (o : Option ℕ). some (replyTo (headerOf (x .request)) accepted (number (placeIn (x .registers) o + 1) ∷ string stored ∷ []))) (register-at .is)
 
   -- read back, where the count is the rows'
   module _ (n : x .registerCount ≡ length (x .registers)) where
@@ -270,11 +270,14 @@ module _ (x : Call) (vs : List Value) (y : Yes x KL vs) where
         let m = leb-true (x .registerCount) 32 (and-second (leb 1 (x .registerCount)) _ (and-second (leb (x .slotCount) 8) _ (and-second (leb 1 (x .slotCount)) _ (y .counts)))) in
         omega (arith, n, register-at .within)
 
-    reply-reads : fieldsOf (responseBytes (headerOf (x .request)) accepted reply) ≡ reply
-    reply-reads = response-fields (headerOf (x .request)) accepted reply (header-five (x .request) (y .whole)) refl (rw (le-leb (register-at .place + 1) 2147483647 is-low, is-text) refl)
+    pub load-values : areValues loadFields ≡ true
+    load-values = rw (le-leb (register-at .place + 1) 2147483647 is-low, is-text) refl
+
+    pub load-reads : fieldsOf (responseBytes (headerOf (x .request)) accepted loadFields) ≡ loadFields
+    load-reads = reply-fields (replyTo (headerOf (x .request)) accepted loadFields) (answered-five (headerOf (x .request)) (header-five (x .request) (y .whole))) refl load-values
 
     does-kl : Does x KL vs (effect x KL vs (recordIn KL vs) name)
-    does-kl names = rw (kl-response names, says-yes x KL vs y, reply-reads, add-one (register-at .place)) steps-kl
+    does-kl names = rw (kl-reply names, says-yes x KL vs y, load-reads, add-one (register-at .place)) steps-kl
 
 -- a register that is deleted
 module _ (x : Call) (vs : List Value) (y : Yes x KD vs) where

@@ -1,4 +1,4 @@
--- The answer to a call: outcome, response and all rows after it (document 01, Slots and registers, Questions in order).
+-- The answer to a call: outcome, reply and all rows after it (document 01, Slots and registers, Questions in order).
 use Prim.Native.Nat.{ℕ, _+_, _-_}
 use mathlib.Core.List.{List, [], _∷_, _++_, map}
 use mathlib.Core.Option.{Option, none, some}
@@ -6,7 +6,7 @@ use lib.ListN.{length, set, drop}
 use Rattle.octets.specs.Texts.{text}
 use Rattle.fields.specs.Values.{Value, number, string}
 use Rattle.frames.specs.Frames.{headerOf}
-use Rattle.responses.specs.Responses.{responseBytes}
+use Rattle.responses.specs.Responses.{Reply, replyBytes, replyTo}
 use Rattle.identities.specs.Identities.{fingerprintIn}
 use Rattle.stored_cards.specs.Stored.{storedCard}
 use Rattle.commands.specs.declared.Command.{Command}
@@ -19,24 +19,33 @@ use Rattle.rows.specs.declared.SlotRow.{SlotRow}
 use Rattle.rows.specs.declared.RegisterRow.{RegisterRow}
 use Rattle.rows.specs.declared.SlotState.{SlotState}
 use Rattle.rows.specs.declared.SlotState.the-variants.{Free, Pending, Loading, Idle}
-use Rattle.engine.specs.Refusals.{Header, silent, general, own, Told, refusal}
+use Rattle.engine.specs.Refusals.{Header, general, own, RefusalEntry, refusal}
 use Rattle.engine.specs.Requests.{commandIn, fieldsIn, registerIn, recordIn, kmcIdentityIn, slotIn, cardIn}
 use Rattle.engine.specs.Questions.{Call, slotPlace, placeIn, sessionPlace, storePlace, slotNamed, registerNumbered, groupIn, revisionIn, questions, firstNo}
 use Rattle.engine.specs.declared.Refusal.{Refusal}
 use Rattle.engine.specs.declared.Outcome.{Outcome}
 use Rattle.engine.specs.declared.Outcome.the-variants.{Accepted, Done, Refused}
 
--- outcome, response bytes (none where nothing is written), and all rows after it. Only the sequence of SM?GL's list is free: the response goes by the sequence of the
--- slots' names, and no other response looks at it
+-- outcome, reply (none where nothing is written), and all rows after it. Only the sequence of SM?GL's list is free:
+-- its reply goes by the sequence of the slots' names, and no other reply looks at it
 pub record Answer : Type 0 where
   pub outcome : Outcome
-  pub response : List (List ℕ) → List ℕ
+  pub reply : List (List ℕ) → Option Reply
   pub slots : List SlotRow
   pub registers : List RegisterRow
 
+-- the bytes of a reply; none where there is none
+abbrev pub responseOf : Option Reply → List ℕ
+responseOf none = []
+responseOf (some r) = replyBytes r
+
+-- the response: its reply's bytes
+abbrev pub response : Answer → List (List ℕ) → List ℕ
+response a names = responseOf (a .reply names)
+
 -- the response buffer afterwards: bytes beyond the response keep their value
 abbrev pub bufferAfter : List ℕ → List ℕ → List ℕ
-bufferAfter response buffer = response ++ drop (length response) buffer
+bufferAfter bytes buffer = bytes ++ drop (length bytes) buffer
 
 abbrev pub errorHeader : List ℕ
 errorHeader = text "GL!ER"
@@ -64,26 +73,41 @@ loadedCard card check s = storedCard card (48 ∷ []) check s (48 ∷ [])
 unfoldable pub cardPlace : List ℕ → List RegisterRow → ℕ
 cardPlace card rows = placeIn rows (storePlace (groupIn card) (revisionIn card) rows)
 
--- the bytes of a refusal's response
-abbrev pub refusalBytes : List ℕ → Header → Told → List ℕ
-refusalBytes request silent t = []
-refusalBytes request general t = responseBytes errorHeader (t .status) (t .text)
-refusalBytes request own t = responseBytes (headerOf request) (t .status) (t .text)
+-- the reply to a refused request: for refusals 5 to 7 the header GL!ER stands in place of the request's own
+abbrev pub replyUnder : List ℕ → Option Header → RefusalEntry → Option Reply
+replyUnder request none e = none
+replyUnder request (some general) e = some (record { header = errorHeader; status = e .status; fields = e .fields })
+replyUnder request (some own) e = some (replyTo (headerOf request) (e .status) (e .fields))
+
+abbrev pub refusalReply : List ℕ → Refusal → Option Reply
+refusalReply request r = replyUnder request (refusal r .header) (refusal r)
 
 -- a refusal changes no row
 unfoldable pub refused : Call → Refusal → Answer
-refused x r =
-    record { outcome = Refused r; response = λ names. refusalBytes (x .request) (refusal r .header) (refusal r); slots = x .slots; registers = x .registers }
+refused x r = record {
+  outcome = Refused r;
+  reply = λ names. refusalReply (x .request) r;
+  slots = x .slots;
+  registers = x .registers;
+}
 
 -- an accepted answer: its outcome, its fields, and the rows after it
 unfoldable pub answered : Call → Outcome → List Value → List SlotRow → List RegisterRow → Answer
-answered x o fields slots registers =
-    record { outcome = o; response = λ names. responseBytes (headerOf (x .request)) accepted fields; slots = slots; registers = registers }
+answered x o fields slots registers = record {
+  outcome = o;
+  reply = λ names. some (replyTo (headerOf (x .request)) accepted fields);
+  slots = slots;
+  registers = registers;
+}
 
 -- SM?GL: the names, in the sequence that is chosen
 unfoldable pub listed : Call → Answer
-listed x =
-    record { outcome = Done; response = λ names. responseBytes (headerOf (x .request)) accepted (nameFields names); slots = x .slots; registers = x .registers }
+listed x = record {
+  outcome = Done;
+  reply = λ names. some (replyTo (headerOf (x .request)) accepted (nameFields names));
+  slots = x .slots;
+  registers = x .registers;
+}
 
 -- what each command does: vs are its fields, r the record among them, s the slot that it names
 abbrev pub effect : Call → Command → List Value → List ℕ → List ℕ → Answer

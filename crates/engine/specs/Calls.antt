@@ -8,7 +8,7 @@ use Rattle.rows.specs.Reports.{InSomeSequence}
 use Rattle.rows.specs.declared.Tables.{Tables}
 use Rattle.rows.specs.declared.Supplement.{Supplement}
 use Rattle.engine.specs.Questions.{Call}
-use Rattle.engine.specs.Answers.{Answer, bufferAfter}
+use Rattle.engine.specs.Answers.{Answer, response, bufferAfter}
 
 -- of the places that there are, the rows are as many as the caller has; the counts are the caller's own, so that 33 rows are 33
 abbrev pub callIn : Tables → Supplement → List ℕ → ℕ → Call
@@ -25,7 +25,8 @@ callIn t x request room = record {
 -- the response's length and the buffer after it, SM?GL's list in some sequence of the slots: this alone of an answer is open
 abbrev pub Responded : Tables → Answer → List ℕ → ℕ → List ℕ → Type 0
 Responded t a before n after =
-    InSomeSequence (slotRows t) (λ (names : List (List ℕ)). (n ≡ length (a .response names)) × (after ≡ bufferAfter (a .response names) before))
+    InSomeSequence (slotRows t)
+    (λ (names : List (List ℕ)). (n ≡ length (response a names)) × (after ≡ bufferAfter (response a names) before))
 
 -- the answer's rows, and the places beyond them as they were
 abbrev pub tablesAfter : Tables → Answer → Tables

@@ -1,6 +1,7 @@
--- The refusals: number, status and text of each (document 01, Questions in order).
+-- The refusals: number, and header, status and fields of the reply (document 01, Questions in order).
 use Prim.Native.Nat.{ℕ, _+_, _/_, _%_}
 use mathlib.Core.List.{List, [], _∷_, _++_}
+use mathlib.Core.Option.{Option, none, some}
 use Rattle.octets.specs.Texts.{text}
 use Rattle.fields.specs.Values.{Value, string}
 use Rattle.engine.specs.declared.Refusal.{Refusal}
@@ -28,17 +29,17 @@ use Rattle.engine.specs.declared.Refusal.the-variants.{
   EmptyRegister,
 }
 
--- how a refusal is told: with length 0 and nothing written; under GL!ER; or under the request's own header
+-- the header that a refusal is replied under: GL!ER, or the request's own
 pub data Header : Type 0 where
-  silent : Header
   general : Header
   own : Header
 
-pub record Told : Type 0 where
+-- number and reply of a refusal; 1 to 4 have none, and nothing is written
+pub record RefusalEntry : Type 0 where
   pub number : ℕ
-  pub header : Header
+  pub header : Option Header
   pub status : List ℕ
-  pub text : List Value
+  pub fields : List Value
 
 -- "EE", the status of an extended error (001 clause 5.3.4)
 abbrev pub extended : List ℕ
@@ -52,34 +53,36 @@ km n = string (text "KM." ++ ((48 + n / 10) ∷ (48 + n % 10) ∷ [])) ∷ []
 abbrev pub sm3b : ℕ → List Value
 sm3b n = string (text "SM.3B." ++ ((48 + n) ∷ [])) ∷ []
 
-abbrev quiet : ℕ → Told
-quiet n = record { number = n; header = silent; status = []; text = [] }
+abbrev unwritten : ℕ → RefusalEntry
+unwritten n = record { number = n; header = none; status = []; fields = [] }
 
-abbrev plain : ℕ → Header → List ℕ → Told
-plain n h s = record { number = n; header = h; status = s; text = [] }
+-- a status alone
+abbrev status : ℕ → Header → List ℕ → RefusalEntry
+status n h s = record { number = n; header = some h; status = s; fields = [] }
 
-abbrev told : ℕ → Header → List Value → Told
-told n h t = record { number = n; header = h; status = extended; text = t }
+-- EE and one string
+abbrev error : ℕ → Header → List Value → RefusalEntry
+error n h fields = record { number = n; header = some h; status = extended; fields = fields }
 
-abbrev pub refusal : Refusal → Told
-refusal RowCounts = quiet 1
-refusal ShortBuffer = quiet 2
-refusal UnsoundRows = quiet 3
-refusal BadSupplement = quiet 4
-refusal BadFrame = told 5 general (km 5)
-refusal BadChecksum = plain 6 general (text "20")
-refusal UnknownHeader = plain 7 general (text "21")
-refusal BadFields = told 8 own (km 8)
-refusal BadRecord = told 9 own (km 9)
-refusal BadForm = told 10 own (km 10)
-refusal Expired = told 11 own (km 11)
-refusal UnknownSlot = plain 12 own (text "27")
-refusal NoFreeSlot = told 13 own (km 13)
-refusal WrongState = told 14 own (km 14)
-refusal OtherModule = told 15 own (sm3b 6)
-refusal OtherFingerprint = told 16 own (sm3b 7)
-refusal OtherTvp = told 17 own (sm3b 8)
-refusal OtherTag = told 18 own (sm3b 9)
-refusal CheckFailed = told 19 own (km 19)
-refusal NoFreeRegister = plain 20 own (text "28")
-refusal EmptyRegister = plain 21 own (text "22")
+abbrev pub refusal : Refusal → RefusalEntry
+refusal RowCounts = unwritten 1
+refusal ShortBuffer = unwritten 2
+refusal UnsoundRows = unwritten 3
+refusal BadSupplement = unwritten 4
+refusal BadFrame = error 5 general (km 5)
+refusal BadChecksum = status 6 general (text "20")
+refusal UnknownHeader = status 7 general (text "21")
+refusal BadFields = error 8 own (km 8)
+refusal BadRecord = error 9 own (km 9)
+refusal BadForm = error 10 own (km 10)
+refusal Expired = error 11 own (km 11)
+refusal UnknownSlot = status 12 own (text "27")
+refusal NoFreeSlot = error 13 own (km 13)
+refusal WrongState = error 14 own (km 14)
+refusal OtherModule = error 15 own (sm3b 6)
+refusal OtherFingerprint = error 16 own (sm3b 7)
+refusal OtherTvp = error 17 own (sm3b 8)
+refusal OtherTag = error 18 own (sm3b 9)
+refusal CheckFailed = error 19 own (km 19)
+refusal NoFreeRegister = status 20 own (text "28")
+refusal EmptyRegister = status 21 own (text "22")

@@ -46,7 +46,7 @@ use Rattle.history.specs.Model.{
 use Rattle.history.specs.Model as model
 use Rattle.engine.specs.Requests.{commandIn, fieldsIn, registerIn, recordIn, slotIn, cardIn, secondText}
 use Rattle.engine.specs.Questions.{Call, groupIn, revisionIn}
-use Rattle.engine.specs.Answers.{Answer, bufferAfter, accepted, answerOf}
+use Rattle.engine.specs.Answers.{Answer, response, bufferAfter, accepted, answerOf}
 
 -- THE ROWS
 abbrev pub stateIn : ℕ → State
@@ -127,10 +127,10 @@ rowsAfter t e = record { slots = answerOf (callOf t e) .slots; registers = answe
 
 -- the answer to a call: the first bytes of the buffer, as many as the response has, never what lies beyond
 abbrev pub answerBytes : List ℕ → List ℕ → List ℕ
-answerBytes response buffer = take (length response) (bufferAfter response buffer)
+answerBytes bytes buffer = take (length bytes) (bufferAfter bytes buffer)
 
 abbrev pub itemAt : Lent → Handed → Item
-itemAt t e = itemOf (e .request) (answerBytes (answerOf (callOf t e) .response (e .sequence)) (e .buffer))
+itemAt t e = itemOf (e .request) (answerBytes (response (answerOf (callOf t e)) (e .sequence)) (e .buffer))
 
 -- empty tables: every row is zero
 unfoldable pub emptyRows : ℕ → ℕ → Lent

@@ -6,15 +6,15 @@ use Rattle.engine.specs.Outcomes.{outcomeNumber}
 use Rattle.engine.specs.declared.Refusal.{Refusal}
 use Rattle.engine.specs.declared.Outcome.{Outcome}
 use Rattle.engine.specs.declared.Outcome.the-variants.{Refused}
-use Rattle.refusal_numbers.specs.Tellings.{toldIn}
+use Rattle.refusal_numbers.specs.Tellings.{refusalIn}
 use Rattle.refusal_numbers.specs.declared.Entry.{Entry}
 
 -- entry_of
-pub entered : (r x : Refusal) (e : Entry) → r ≡ x → toldIn e ≡ refusal x → toldIn e ≡ refusal r
+pub entered : (r x : Refusal) (e : Entry) → r ≡ x → refusalIn e ≡ refusal x → refusalIn e ≡ refusal r
 entered r x e p q = q ∙ ap refusal (sym p)
 
 -- refusal_number, outcome_number
-pub number-told : (r : Refusal) (e : Entry) → toldIn e ≡ refusal r → e .0 ≡ refusal r .number
+pub number-told : (r : Refusal) (e : Entry) → refusalIn e ≡ refusal r → e .0 ≡ refusal r .number
 number-told r e p = ap (λ t. t .number) p
 
 pub refused-number : (o : Outcome) (r : Refusal) (n : ℕ) → o ≡ Refused r → n ≡ refusal r .number → n ≡ outcomeNumber o

@@ -4,7 +4,7 @@ use engine::Refusal;
 ghost use mathlib.Core.Path.{_≡_};
 ghost use Rattle.engine.specs.Refusals.{refusal};
 ghost use Rattle.engine.specs.Outcomes.{outcomeNumber};
-ghost use Rattle.refusal_numbers.specs.Tellings.{toldIn};
+ghost use Rattle.refusal_numbers.specs.Tellings.{refusalIn};
 
 // How a refusal is told: not at all; by a status of two characters; or as an extended error, by its own number or by a digit of 003 clause 13.
 pub enum Telling {
@@ -19,7 +19,7 @@ pub struct Entry(pub u8, pub Telling);
 
 // The table of the refusals.
 pub fn entry_of(r: Refusal) -> Entry
-    ensures { λ e. ⌜ toldIn e ≡ refusal r ⌝ }
+    ensures { λ e. ⌜ refusalIn e ≡ refusal r ⌝ }
 {
     match r {
         Refusal::RowCounts => Entry(1, Telling::Nothing),

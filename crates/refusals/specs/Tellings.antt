@@ -1,9 +1,10 @@
 -- The room that the response to a refusal takes (document 01, Questions in order).
 use Prim.Native.Nat.{ℕ, _≤_}
-use Rattle.engine.specs.Refusals.{Header, silent, general, own}
+use mathlib.Core.Option.{Option, none, some}
+use Rattle.engine.specs.Refusals.{Header, general, own}
 
 -- a refused request of n bytes can be answered in room bytes
-abbrev pub CanTell : Header → ℕ → ℕ → Type 0
-CanTell silent n room = Unit
-CanTell general n room = 1024 ≤ room
-CanTell own n room = (10 ≤ n) × (1024 ≤ room)
+abbrev pub CanTell : Option Header → ℕ → ℕ → Type 0
+CanTell none n room = Unit
+CanTell (some general) n room = 1024 ≤ room
+CanTell (some own) n room = (10 ≤ n) × (1024 ≤ room)

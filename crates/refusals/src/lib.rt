@@ -9,8 +9,8 @@ ghost use Rattle.octets.specs.Wrote.{Wrote};
 ghost use Rattle.fields.specs.Values.{string};
 ghost use Rattle.responses.specs.Responses.{responseBytes};
 ghost use Rattle.engine.specs.Refusals.{refusal, km};
-ghost use Rattle.engine.specs.Answers.{refusalBytes};
-ghost use Rattle.refusal_numbers.specs.Tellings.{statusIn, textIn, sm};
+ghost use Rattle.engine.specs.Answers.{responseOf, refusalReply};
+ghost use Rattle.refusal_numbers.specs.Tellings.{statusIn, fieldsIn, sm};
 ghost use Rattle.refusals.specs.Tellings.{CanTell};
 
 // KM. and a number in two digits.
@@ -30,7 +30,7 @@ fn sm_text(d: u8) -> [u8; 7]
 // Writes the response to a refusal with number n under a header, and answers its length.
 fn tell(dst: &mut [u8], header: &[u8], t: Telling, n: u8) -> usize
     requires { ⌜ (3 ≤ length (now header)) × (length (now header) + 16 ≤ length (now dst)) ⌝ }
-    ensures { λ r. ⌜ Wrote (now (dst .entry)) 0 (responseBytes (now (header .entry)) (statusIn t) (textIn t n)) (now (dst .exit)) r ⌝ }
+    ensures { λ r. ⌜ Wrote (now (dst .entry)) 0 (responseBytes (now (header .entry)) (statusIn t) (fieldsIn t n)) (now (dst .exit)) r ⌝ }
     ensures fits { λ r. ⌜ r ≤ length (now (dst .entry)) ⌝ }
 {
     match t {
@@ -53,7 +53,7 @@ fn tell(dst: &mut [u8], header: &[u8], t: Telling, n: u8) -> usize
 // Writes the response to a refused request, and answers its length: nothing for refusals 1 to 4, and under GL!ER for 5 to 7.
 pub fn refuse(dst: &mut [u8], request: &[u8], r: Refusal) -> usize
     requires { ⌜ CanTell (refusal r .header) (length (now request)) (length (now dst)) ⌝ }
-    ensures { λ n. ⌜ Wrote (now (dst .entry)) 0 (refusalBytes (now (request .entry)) (refusal r .header) (refusal r)) (now (dst .exit)) n ⌝ }
+    ensures { λ n. ⌜ Wrote (now (dst .entry)) 0 (responseOf (refusalReply (now (request .entry)) r)) (now (dst .exit)) n ⌝ }
     ensures fits { λ n. ⌜ n ≤ length (now (dst .entry)) ⌝ }
 {
     let e = refusal_numbers::entry_of(r);

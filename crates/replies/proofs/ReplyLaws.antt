@@ -9,7 +9,7 @@ use Rattle.octets.specs.Wrote.{Wrote}
 use Rattle.octets.proofs.Writes.{then, none, take-start}
 use Rattle.fields.specs.Values.{Value, number, string, fieldBytes, payloadBytes}
 use Rattle.frames.specs.Frames.{textOf, headerOf, ending, framed, headBytes}
-use Rattle.responses.specs.Responses.{responseBytes}
+use Rattle.responses.specs.Responses.{replyBytes, responseBytes}
 
 -- what was written from the start on, and its ending
 closed : {d e f p : List ℕ} {n r : ℕ} → n ≤ length d → Wrote d 0 p e n → Wrote e n (ending (take n e)) f r → Wrote d 0 (framed p) f r
@@ -19,7 +19,7 @@ closed l u w = then u (rw (take-start u (omega (arith, u .next))) at w)
 -- the head of a response, its fields and its ending
 module _ {d e : List ℕ} {a : ℕ} (h s : List ℕ) (u : Wrote d 0 (headBytes h s) e a) where
   fields : {f g : List ℕ} {b r : ℕ} (vs : List Value) → Wrote e a (payloadBytes vs) f b → Wrote f b (ending (take b f)) g r → b ≤ length d → Wrote d 0 (responseBytes h s vs) g r
-  unfolding responseBytes
+  unfolding replyBytes headBytes
   fields vs o w l = closed l (then u o) w
 
 module _ {d e : List ℕ} {a : ℕ} (h s : List ℕ) (u : Wrote d 0 (headBytes h s) e a) (i : a ≡ length h + length s) where

@@ -21,7 +21,7 @@ use Rattle.rows.specs.declared.SlotState.the-variants.{Free, Pending, Loading, 
 use Rattle.row_index.specs.Found.{AreOwnedBy}
 use Rattle.engine.specs.Refusals.{refusal}
 use Rattle.engine.specs.Requests.{fieldsIn, areFieldsOf}
-use Rattle.engine.specs.Answers.{accepted, refusalBytes}
+use Rattle.engine.specs.Answers.{accepted, responseOf, refusalReply}
 use Rattle.request_parts.specs.Parts.{kmcidOf, cardOf}
 use Rattle.engine.specs.declared.Decision.{Decision}
 use Rattle.engine.specs.declared.Decision.the-variants.{Refuse, Reset, Pend, Open, Load, Finish, Delete, Clear, Show, Enumerate, Query}
@@ -45,7 +45,7 @@ outcomeFor (Query k) = Done
 
 -- the response to the request q, over the tables t; SM?GL lists the slots row by row
 abbrev pub responseFor : Decision → Tables → Supplement → List ℕ → List ℕ
-responseFor (Refuse r) t x q = refusalBytes q (refusal r .header) (refusal r)
+responseFor (Refuse r) t x q = responseOf (refusalReply q r)
 responseFor Reset t x q = responseBytes (headerOf q) accepted []
 responseFor (Pend k) t x q = responseBytes (headerOf q) accepted (string (kmcidOf (fieldsIn q)) ∷ string (loadRequest x) ∷ [])
 responseFor (Open k) t x q = responseBytes (headerOf q) accepted (string (kmcidOf (fieldsIn q)) ∷ [])

@@ -2,7 +2,7 @@
 use mathlib.Core.Path.{_≡_, refl, sym, ap, _∙_}
 use mathlib.Core.Bool.{true}
 use mathlib.Core.List.{List, [], _∷_, _++_, append-assoc}
-use Prim.Native.Nat.{ℕ, _+_, _-_}
+use Prim.Native.Nat.{ℕ, _+_, _-_, _≤_}
 use native.Mathlib.Omega.{arith}
 use lib.ListN.{length, take, drop, length-append}
 use lib.Seq.{take-at, drop-at}
@@ -20,9 +20,9 @@ use Rattle.text.proofs.Printable.{printable-bytes}
 use Rattle.fields.specs.Values.{Value, payloadBytes, areValues}
 use Rattle.field_writer.proofs.RoundTrip.{payload-read}
 use Rattle.field_writer.proofs.Printable.{payload-printable}
-use Rattle.frames.specs.Frames.{endsInReturn, isChecked, textOf, headerOf, payloadOf, ending, framed, requestBytes, answered, headBytes}
+use Rattle.frames.specs.Frames.{endsInReturn, isWhole, isChecked, textOf, headerOf, payloadOf, ending, framed, requestBytes, answered}
 use Rattle.frames.proofs.FrameLaws.{answered-length}
-use Rattle.responses.specs.Responses.{responseBytes, statusOf, fieldsOf, Says}
+use Rattle.responses.specs.Responses.{Reply, replyBytes, statusOf, fieldsOf, Says}
 
 -- a text, framed
 module _ (s : List ℕ) where
@@ -73,53 +73,76 @@ module _ (h p : List ℕ) (n : length h ≡ 5) where
   request-payload = rw (framed-text (h ++ p)) (drop-at h p 5 n)
 
 -- a response reads back as its header and status, and as its fields, where PTVD can carry them
-module _ (header status : List ℕ) (fields : List Value) (five : length header ≡ 5) (two : length status ≡ 2) where
+module _ (reply : Reply) (five : length (reply .header) ≡ 5) (two : length (reply .status) ≡ 2) where
+  abbrev head : List ℕ
+  head = reply .header ++ reply .status
+
   abbrev text : List ℕ
-  text = headBytes header status ++ payloadBytes fields
+  text = head ++ payloadBytes (reply .fields)
 
-  answered-five : length (answered header) ≡ 5
-  answered-five = answered-length header (omega arith) ∙ five
+  head-seven : length head ≡ 7
+  head-seven = length-append (reply .header) (reply .status) ∙ omega (arith, five)
 
-  head-seven : length (headBytes header status) ≡ 7
-  unfolding headBytes
-  head-seven = length-append (answered header) status ∙ omega (arith, answered-five)
+  parted : text ≡ reply .header ++ (reply .status ++ payloadBytes (reply .fields))
+  parted = append-assoc (reply .header) (reply .status) (payloadBytes (reply .fields))
 
-  parted : text ≡ answered header ++ (status ++ payloadBytes fields)
-  unfolding headBytes
-  parted = append-assoc (answered header) status (payloadBytes fields)
+  pub reply-header : headerOf (replyBytes reply) ≡ reply .header
+  unfolding replyBytes headerOf
+  reply-header = rw (framed-text text, parted) (take-at (reply .header) (reply .status ++ payloadBytes (reply .fields)) 5 five)
 
-  pub response-header : headerOf (responseBytes header status fields) ≡ answered header
-  unfolding responseBytes headerOf
-  response-header = rw (framed-text text, parted) (take-at (answered header) (status ++ payloadBytes fields) 5 answered-five)
+  pub reply-status : statusOf (replyBytes reply) ≡ reply .status
+  unfolding replyBytes statusOf
+  reply-status =
+      rw (framed-text text, parted, drop-at (reply .header) (reply .status ++ payloadBytes (reply .fields)) 5 five)
+      (take-at (reply .status) (payloadBytes (reply .fields)) 2 two)
 
-  pub response-status : statusOf (responseBytes header status fields) ≡ status
-  unfolding responseBytes statusOf
-  response-status = rw (framed-text text, parted, drop-at (answered header) (status ++ payloadBytes fields) 5 answered-five) (take-at status (payloadBytes fields) 2 two)
+  pub reply-fields : areValues (reply .fields) ≡ true → fieldsOf (replyBytes reply) ≡ reply .fields
+  unfolding replyBytes fieldsOf
+  reply-fields v = rw (framed-text text, drop-at head (payloadBytes (reply .fields)) 7 head-seven) (payload-read (reply .fields) v)
 
-  pub response-fields : areValues fields ≡ true → fieldsOf (responseBytes header status fields) ≡ fields
-  unfolding responseBytes fieldsOf
-  response-fields v = rw (framed-text text, drop-at (headBytes header status) (payloadBytes fields) 7 head-seven) (payload-read fields v)
+  reply-size : length (replyBytes reply) ≡ 12 + length (payloadBytes (reply .fields))
+  unfolding replyBytes
+  reply-size = size text ∙ omega (arith, length-append head (payloadBytes (reply .fields)), head-seven)
 
--- THE LAW of demand 2: every response written reads back as its own header, status and fields: for each header of five printable characters, GL!ER among them,
--- each status of two, and all fields that PTVD can carry
-module _ (header status : List ℕ) (fields : List Value) (five : length header ≡ 5) (two : length status ≡ 2) (h : areAll Printable header ≡ true) (p : areAll Printable status ≡ true) (v : areValues fields ≡ true) where
-  answered-printable : allOf (isOf Printable) (answered header) ≡ true
-  unfolding areAll answered
-  answered-printable =
-      all-append (isOf Printable) (take 2 header) (33 ∷ drop 3 header) (all-take (isOf Printable) 2 header h) (rw (all-drop (isOf Printable) 3 header h))
-
-  text-printable : areAll Printable (headBytes header status ++ payloadBytes fields) ≡ true
-  unfolding areAll headBytes
+-- THE LAW of demand 2: every response written is framed as a request is, and reads back as its own header, status and fields: for each header of five printable
+-- characters, each status of two, and all fields that PTVD can carry in 1,012 bytes
+module _ (reply : Reply) (five : length (reply .header) ≡ 5) (two : length (reply .status) ≡ 2) (h : areAll Printable (reply .header) ≡ true) (p : areAll Printable (reply .status) ≡ true)
+    (v : areValues (reply .fields) ≡ true) (short : length (payloadBytes (reply .fields)) ≤ 1012) where
+  text-printable : areAll Printable (text reply five two) ≡ true
+  unfolding areAll
   text-printable =
-      all-append (isOf Printable) (answered header ++ status) (payloadBytes fields) (all-append (isOf Printable) (answered header) status answered-printable p) (payload-printable fields v)
+      all-append (isOf Printable) (reply .header ++ reply .status) (payloadBytes (reply .fields)) (all-append (isOf Printable) (reply .header) (reply .status) h p) (payload-printable (reply .fields) v)
 
-  pub response-reads : Says (responseBytes header status fields) (answered header) status fields
-  unfolding responseBytes
-  response-reads =
-      record {
-        returns = framed-returns (headBytes header status ++ payloadBytes fields) text-printable;
-        checked = framed-checked (headBytes header status ++ payloadBytes fields) text-printable;
-        header-is = response-header header status fields five two;
-        status-is = response-status header status fields five two;
-        fields-are = response-fields header status fields five two v;
-      }
+  reply-whole : isWhole (replyBytes reply) ≡ true
+  unfolding isWhole replyBytes
+  reply-whole =
+      let n = reply-size reply five two in
+      rw (le-leb 10 (length (framed (text reply five two))) (omega (arith, n)), le-leb (length (framed (text reply five two))) 1024 (omega (arith, n, short)))
+      (framed-returns (text reply five two) text-printable)
+
+  reply-checked : isChecked (replyBytes reply) ≡ true
+  unfolding replyBytes
+  reply-checked = framed-checked (text reply five two) text-printable
+
+  pub reply-reads : Says (replyBytes reply) reply
+  reply-reads = record {
+    whole = reply-whole;
+    checked = reply-checked;
+    header-is = reply-header reply five two;
+    status-is = reply-status reply five two;
+    fields-are = reply-fields reply five two v;
+  }
+
+-- the header of a response is as long as the request's, and as printable
+pub answered-five : (h : List ℕ) → length h ≡ 5 → length (answered h) ≡ 5
+answered-five h n = answered-length h (omega arith) ∙ n
+
+pub answered-printable : (h : List ℕ) → areAll Printable h ≡ true → areAll Printable (answered h) ≡ true
+unfolding areAll answered
+answered-printable h e =
+    all-append (isOf Printable) (take 2 h) (33 ∷ drop 3 h) (all-take (isOf Printable) 2 h e) (rw (all-drop (isOf Printable) 3 h e))
+
+-- no response has no bytes
+pub reply-some : (reply : Reply) → 5 ≤ length (replyBytes reply)
+unfolding replyBytes
+reply-some reply = omega (arith, size ((reply .header ++ reply .status) ++ payloadBytes (reply .fields)))

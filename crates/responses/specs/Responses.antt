@@ -5,11 +5,25 @@ use mathlib.Core.Bool.{true}
 use mathlib.Core.List.{List, _++_}
 use lib.ListN.{take, drop}
 use Rattle.fields.specs.Values.{Value, valuesOf, payloadBytes}
-use Rattle.frames.specs.Frames.{endsInReturn, isChecked, framed, textOf, headerOf, headBytes}
+use Rattle.frames.specs.Frames.{isWhole, isChecked, framed, textOf, headerOf, answered}
 
--- the answer to a request with that header
-unfoldable pub responseBytes : List ℕ → List ℕ → List Value → List ℕ
-responseBytes header status fields = framed (headBytes header status ++ payloadBytes fields)
+-- what a response says: its header, which has ! where the request's has ?, its status and its fields
+pub record Reply : Type 0 where
+  pub header : List ℕ
+  pub status : List ℕ
+  pub fields : List Value
+
+-- its bytes
+unfoldable pub replyBytes : Reply → List ℕ
+replyBytes r = framed ((r .header ++ r .status) ++ payloadBytes (r .fields))
+
+-- the reply to a request with that header
+abbrev pub replyTo : List ℕ → List ℕ → List Value → Reply
+replyTo header status fields = record { header = answered header; status = status; fields = fields }
+
+-- and its bytes
+abbrev pub responseBytes : List ℕ → List ℕ → List Value → List ℕ
+responseBytes header status fields = replyBytes (replyTo header status fields)
 
 -- the two status characters after the header
 unfoldable pub statusOf : List ℕ → List ℕ
@@ -19,10 +33,10 @@ statusOf s = take 2 (drop 5 (textOf s))
 unfoldable pub fieldsOf : List ℕ → List Value
 fieldsOf s = valuesOf (drop 7 (textOf s))
 
--- what a message says, read off its bytes
-pub record Says (s header status : List ℕ) (fields : List Value) : Type 0 where
-  pub returns : endsInReturn s ≡ true
+-- bytes that say just this reply, framed as a request is
+pub record Says (s : List ℕ) (reply : Reply) : Type 0 where
+  pub whole : isWhole s ≡ true
   pub checked : isChecked s ≡ true
-  pub header-is : headerOf s ≡ header
-  pub status-is : statusOf s ≡ status
-  pub fields-are : fieldsOf s ≡ fields
+  pub header-is : headerOf s ≡ reply .header
+  pub status-is : statusOf s ≡ reply .status
+  pub fields-are : fieldsOf s ≡ reply .fields

@@ -1,0 +1,26 @@
+-- How many bytes fields take.
+use mathlib.Core.Path.{_≡_, _∙_}
+use mathlib.Core.List.{List, [], _∷_}
+use Prim.Native.Nat.{ℕ, _+_, _≤_}
+use native.Mathlib.Omega.{arith}
+use lib.ListN.{length, length-append}
+use Rattle.decimal_writer.specs.Digits.{decimalBytes}
+use Rattle.decimal_writer.proofs.RoundTrip.{written-short}
+use Rattle.fields.specs.Values.{Value, number, string, octets, contentBytes, fieldBytes, payloadBytes}
+
+content-length : (t : ℕ) (v : List ℕ) → length (contentBytes t v) ≡ length v + 2
+unfolding contentBytes
+content-length t v = omega (arith, length-append v (126 ∷ []))
+
+pub string-length : (v : List ℕ) → length (fieldBytes (string v)) ≡ length v + 2
+string-length v = content-length 80 v
+
+pub octets-length : (v : List ℕ) → length (fieldBytes (octets v)) ≡ length v + 2
+octets-length v = content-length 72 v
+
+pub number-short : (n : ℕ) → length (fieldBytes (number n)) ≤ 12
+number-short n = omega (arith, content-length 78 (decimalBytes n), written-short n)
+
+-- a field, and fields after it
+pub payload-length : (v : Value) (vs : List Value) → length (payloadBytes (v ∷ vs)) ≡ length (fieldBytes v) + length (payloadBytes vs)
+payload-length v vs = length-append (fieldBytes v) (payloadBytes vs)
