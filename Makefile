@@ -4,8 +4,8 @@
 # The default: prints the commands with the time that they take.
 help:
 	@echo 'make test                       all that must hold: documents, proofs, wrong answers, comparisons   36 min'
-	@echo 'make run                        the console on the story of scripts/story.txt                7 min, 20 s'
-	@echo 'make vectors                    the worked examples of the papers, value by value            4 min, 10 s'
+	@echo 'make run                        the console on the story of scripts/story.txt                 7 min, 5 s'
+	@echo 'make vectors                    the worked examples of the papers, value by value             4 min, 5 s'
 	@echo 'make compare N=calls SEED=seed  the engine beside the second implementation                 7 min, 1 min'
 	@echo 'make fuzz N=calls SEED=seed     random calls alone, a million unless told otherwise         7 min, 1 min'
 	@echo 'make bench                      time, stack and size beside an engine written for speed     7 min, 1 min'

@@ -158,16 +158,17 @@ finds() {
     fi
 }
 finds docs/PROOFS.md '0,/\]\(\.\.\/crates/s//](..\/crate/' 'PROOFS.md: no \.\./crate/'
-finds docs/PROOFS.md 's/`refused-keeps`/`refused-kept`/' 'declares no refused-kept'
-finds docs/PROOFS.md 's/`soundness::find`/`soundness::found_it`/' 'crate soundness declares no found_it'
-finds README.md 's/`octets`/`octet`/' 'the crate octets is not listed'
-finds README.md 's/^- \*\*bytes\*\*: /&`no_crate`, /' 'no crate no_crate'
-finds README.md 's/`make vectors`/`make vector`/' 'no command make vector'
-finds README.md 's/docs\/CONSOLE\.md\)/docs\/CONSOLES.md)/' 'no docs/CONSOLES.md'
-finds README.md 's/`scripts\/story\.txt`/`scripts\/tale.txt`/' 'no scripts/tale.txt'
-finds docs/DECISIONS.md 's/`readHex4`/`readHex5`/' 'nothing in the tree is called readHex5'
+finds docs/PROOFS.md '0,/(\]\(\.\.\/crates\/[^)]*\.antt\) `)/s//\1no-/' '\.antt declares no no-'
+finds docs/PROOFS.md '0,/(`[a-z0-9_]+::)/s//\1no_/' 'crate [a-z0-9_]+ declares no no_'
+finds README.md '0,/^(- \*\*[^*]+\*\*: `)[a-z0-9_]+`/s//\1no_crate`/' 'the crate [a-z0-9_]+ is not listed'
+finds README.md '0,/^(- \*\*[^*]+\*\*: `)[a-z0-9_]+`/s//\1no_crate`/' 'no crate no_crate'
+finds README.md '0,/`make [a-z]/s//`make no/' 'no command make no'
+finds README.md '0,/\]\(docs\//s//](docs\/no-/' 'README.md: no docs/no-'
+finds README.md '0,/`scripts\/[a-z]/s//`scripts\/no-/' 'README.md: no scripts/no-'
+finds docs/DECISIONS.md '0,/`([a-z]+[A-Z][A-Za-z0-9]*`)/s//`no\1/' 'nothing in the tree is called no'
 finds docs/DECISIONS.md '0,/^- /s//- once more the same, and once more the same, and once more the same, /' 'wider than'
-finds docs/TRUST.md 's/^(\| all .*)1/\12/' 'stated <, counted'
+finds docs/TRUST.md 's/^(\| all [0-9]+ files \| )/\11/' 'stated <, counted'
+finds docs/TRUST.md "s/$(cat tools/kit)/& no/" 'the kit is'
 echo "documents: broken ones are found"
 held "$top" ${documents[@]}
 echo "documents: what they name is there"
