@@ -1,7 +1,20 @@
 # The commands that README.md names.
-.PHONY: test run vectors compare fuzz bench format
+.PHONY: help test run vectors compare fuzz bench format documents
 
-# Proves every crate from nothing, tries the must-fail edits, runs the programs and the comparison tests.
+# The default: prints the commands with the time that they take.
+help:
+	@echo 'make test                       all that must hold: documents, proofs, wrong answers, comparisons   36 min'
+	@echo 'make run                        the console on the story of scripts/story.txt                 7 min, 5 s'
+	@echo 'make vectors                    the worked examples of the papers, value by value             4 min, 5 s'
+	@echo 'make compare N=calls SEED=seed  the engine beside the second implementation                 7 min, 1 min'
+	@echo 'make fuzz N=calls SEED=seed     random calls alone, a million unless told otherwise         7 min, 1 min'
+	@echo 'make bench                      time, stack and size beside an engine written for speed     7 min, 1 min'
+	@echo 'make documents                  the documents held to the tree                                      10 s'
+	@echo 'make format                     lays the files out                                                   5 s'
+	@echo 'On two cores. Where two times stand, the first is from nothing, the second with all proved already.'
+
+# Holds kit and documents, proves every crate from nothing, tries the must-fail edits, runs the programs and the
+# comparison tests.
 test:
 	@bash tools/test.sh
 
@@ -15,6 +28,10 @@ vectors:
 
 format:
 	@rt fmt
+
+# Holds the documents to the tree.
+documents:
+	@bash tools/documents.sh
 
 # Compares the engine with the second implementation in reference/: make compare N=calls SEED=seed.
 compare:

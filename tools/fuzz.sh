@@ -1,5 +1,6 @@
 #!/usr/bin/env bash
-# Compares the engine with the second implementation on random calls alone, for longer runs: tools/fuzz.sh [CALLS [SEED]].
+# Compares the engine with the second implementation on random calls alone, for longer runs:
+# tools/fuzz.sh [CALLS [SEED]].
 # Without a seed the clock gives one. It is printed first, and repeats the run.
 set -eu -o pipefail
 cd "$(dirname "$0")/.."

@@ -1,14 +1,20 @@
 #!/usr/bin/env bash
-# The test command. Steps in order: `rt ci`, then each comparison test of tools/compare. rt's own line
-# `N passed, 0 failed` is the last line printed, and only where every step passed.
+# The test command. Steps in order: the kit is the one that is pinned and the documents name what is there (tools/kit,
+# tools/documents.sh); `rt ci`; each comparison test of tools/compare. rt's own line `N passed, 0 failed` is the last
+# line printed, and only where every step passed.
 set -u -o pipefail
 top=$(cd "$(dirname "$0")/.." && pwd)
 
-# Runs the steps with the commands given: $1 proves, $2 compares. The last line of $1 is kept for the end.
+# Runs the steps with the commands given: $1 looks at kit and documents, $2 proves, $3 compares. The last line of $2 is
+# kept for the end.
 steps() {
     local log status last
+    if ! "$1"; then
+        echo "test: the kit or the documents are not as they should be"
+        return 1
+    fi
     log=$(mktemp)
-    "$1" 2>&1 | tee "$log" | grep --line-buffered -E '^rt: |: error|passed, ' | grep --line-buffered -v 'passed, '
+    "$2" 2>&1 | tee "$log" | grep --line-buffered -E '^rt: |: error|passed, ' | grep --line-buffered -v 'passed, '
     status=${PIPESTATUS[0]}
     last=$(tail -n 1 "$log")
     if [ "$status" -ne 0 ] || ! [[ $last =~ ^[0-9]+\ passed,\ 0\ failed$ ]]; then
@@ -18,13 +24,17 @@ steps() {
         return 1
     fi
     rm -f "$log"
-    if ! "$2"; then
+    if ! "$3"; then
         echo "test: a comparison test failed"
         return 1
     fi
     echo "$last"
 }
 
+# The kit $1 is the one that the file $2 pins.
+same_kit() { [ "$1" = "$(cat "$2")" ] || { echo "test: the kit is '$1', and $2 pins '$(cat "$2")'"; return 1; }; }
+
+look() { same_kit "$(rt version)" "$top/tools/kit" && bash "$top/tools/documents.sh"; }
 prove() { (cd "$top" && rt ci); }
 compare() { local t; for t in "$top"/tools/compare/*.sh; do [ ! -f "$t" ] || bash "$t" || return 1; done; }
 
@@ -35,13 +45,21 @@ bad_line() { echo '1 passed, 1 failed'; }
 silent() { :; }
 refuses() {
     local out
-    if out=$(steps "$1" "$2"); then echo "test: the runner let $1, $2 pass"; exit 1; fi
-    if [[ $(tail -n 1 <<<"$out") =~ passed,\ 0\ failed$ ]]; then echo "test: the runner reads as a pass on $1, $2"; exit 1; fi
+    if out=$(steps "$1" "$2" "$3"); then echo "test: the runner let $1, $2, $3 pass"; exit 1; fi
+    if [[ $(tail -n 1 <<<"$out") =~ passed,\ 0\ failed$ ]]; then
+        echo "test: the runner reads as a pass on $1, $2, $3"
+        exit 1
+    fi
 }
-refuses bad_status true
-refuses bad_line true
-refuses silent true
-refuses good false
-steps good true >/dev/null || { echo "test: the runner refuses a pass"; exit 1; }
+refuses false good true
+refuses true bad_status true
+refuses true bad_line true
+refuses true silent true
+refuses true good false
+steps true good true >/dev/null || { echo "test: the runner refuses a pass"; exit 1; }
+if same_kit "another $(cat "$top/tools/kit")" "$top/tools/kit" >/dev/null; then
+    echo "test: another kit is taken for the one that is pinned"
+    exit 1
+fi
 
-steps prove compare
+steps look prove compare

@@ -1,4 +1,5 @@
-/* A caller in C: opens a session with a centre, and asks what stands; then hands in rows, supplements, requests and buffers of arbitrary bytes. */
+/* A caller in C: opens a session with a centre, and asks what stands; then hands in rows, supplements, requests and
+ * buffers of arbitrary bytes. */
 #include <stdio.h>
 #include <string.h>
 
@@ -26,7 +27,8 @@ static diminurel_supplement supplement(void) {
 
 /* Hands in a request, its carriage return last, and prints how it ended. */
 static int hand_in(const char *request) {
-    diminurel_reply r = diminurel_handle(slots, 8, registers, 32, supplement(), (const uint8_t *)request, strlen(request), response, sizeof response);
+    diminurel_reply r = diminurel_handle(slots, 8, registers, 32, supplement(), (const uint8_t *)request,
+                                         strlen(request), response, sizeof response);
     int shown = r.length > 0 ? (int)r.length - 1 : 0;
     printf("%.9s.. %d %d %.*s\n", request, r.outcome, r.state, shown, (const char *)response);
     return r.outcome;
@@ -42,7 +44,8 @@ static void fill(void *space, size_t length, uint32_t *seed) {
         ((uint8_t *)space)[i] = (uint8_t)next_random(seed);
 }
 
-/* Arbitrary bytes everywhere: an outcome from 0 to 21, no byte written beyond the rows and the buffer that were lent, and no row changed by a refusal. */
+/* Arbitrary bytes everywhere: an outcome from 0 to 21, no byte written beyond the rows and the buffer that were lent,
+ * and no row changed by a refusal. */
 static int any_bytes(void) {
     static diminurel_slot s[10], s_before[10];
     static diminurel_register t[34], t_before[34];
@@ -50,7 +53,8 @@ static int any_bytes(void) {
     uint32_t seed = 1;
     for (int turn = 0; turn < 20000; turn++) {
         diminurel_supplement x = supplement();
-        size_t n = next_random(&seed) % 10, m = next_random(&seed) % 34, length = next_random(&seed) % 1100, room = next_random(&seed) % 1100;
+        size_t n = next_random(&seed) % 10, m = next_random(&seed) % 34;
+        size_t length = next_random(&seed) % 1100, room = next_random(&seed) % 1100;
         fill(s, sizeof s, &seed);
         fill(t, sizeof t, &seed);
         fill(request, sizeof request, &seed);
@@ -65,9 +69,13 @@ static int any_bytes(void) {
         memcpy(t_before, t, sizeof t);
         memcpy(buffer_before, buffer, sizeof buffer);
         diminurel_reply r = diminurel_handle(s, n, t, m, x, request, length, buffer, room);
-        if (r.outcome > 21 || r.length > room || memcmp(buffer + r.length, buffer_before + r.length, sizeof buffer - r.length))
+        if (r.outcome > 21 || r.length > room)
             return 1;
-        if (memcmp(s + n, s_before + n, sizeof s - n * sizeof *s) || memcmp(t + m, t_before + m, sizeof t - m * sizeof *t))
+        if (memcmp(buffer + r.length, buffer_before + r.length, sizeof buffer - r.length))
+            return 1;
+        if (memcmp(s + n, s_before + n, sizeof s - n * sizeof *s))
+            return 1;
+        if (memcmp(t + m, t_before + m, sizeof t - m * sizeof *t))
             return 1;
         if (r.outcome && (memcmp(s, s_before, sizeof s) || memcmp(t, t_before, sizeof t)))
             return 1;
@@ -77,12 +85,26 @@ static int any_bytes(void) {
     return 0;
 }
 
+/* The version as text is that of its numbers. */
+static int has_version(void) {
+    char numbers[32];
+    snprintf(numbers, sizeof numbers, "%d.%d.%d", DIMINUREL_VERSION_MAJOR, DIMINUREL_VERSION_MINOR,
+             DIMINUREL_VERSION_PATCH);
+    return strcmp(numbers, DIMINUREL_VERSION) == 0;
+}
+
 int main(void) {
-    if (sizeof(diminurel_slot) != 73 || sizeof(diminurel_register) != 256 || sizeof(diminurel_supplement) != 920 || sizeof(diminurel_reply) != 16)
+    if (sizeof(diminurel_slot) != 73 || sizeof(diminurel_register) != 256)
         return 1;
+    if (sizeof(diminurel_supplement) != 920 || sizeof(diminurel_reply) != 16)
+        return 1;
+    if (!has_version())
+        return 1;
+    printf("diminurel %s\n", DIMINUREL_VERSION);
     if (hand_in("GL?RSCEEF\r") != 0)
         return 1;
-    if (hand_in("SM?KCPPK.ECDH.1|KMCID.1:SW1:A:20200101T000000Z:AAAAAAAAAAAAAAAA:9BE0|04|20300101T000000Z|||BE23~9E67\r") != 0)
+    if (hand_in("SM?KCPPK.ECDH.1|KMCID.1:SW1:A:20200101T000000Z:AAAAAAAAAAAAAAAA:9BE0|04|20300101T000000Z|||BE23~"
+                "9E67\r") != 0)
         return 1;
     if (hand_in("SM?GL6991\r") != 0 || hand_in("SM?KQPA~B1D9\r") != 0 || hand_in("SM?GAN12~8602\r") != 21)
         return 1;

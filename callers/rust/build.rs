@@ -1,4 +1,5 @@
-//! The folder of libdiminurel.a is given by DIMINUREL_LIB. The library becomes part of this package, which is built anew where the library has changed.
+//! The folder of libdiminurel.a is given by DIMINUREL_LIB. The library becomes part of this package, which is built anew
+//! where the library has changed.
 
 fn main() {
     println!("cargo:rerun-if-env-changed=DIMINUREL_LIB");

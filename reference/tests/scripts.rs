@@ -3,10 +3,11 @@
 use reference::console;
 use reference::Command;
 
-const SCRIPTS: [(&str, &[u8], &str); 3] = [
+const SCRIPTS: [(&str, &[u8], &str); 4] = [
     ("story", include_bytes!("../../scripts/story.txt"), include_str!("../../scripts/story.out")),
     ("refusals", include_bytes!("../../scripts/refusals.txt"), include_str!("../../scripts/refusals.out")),
     ("forms", include_bytes!("../../scripts/forms.txt"), include_str!("../../scripts/forms.out")),
+    ("examples", include_bytes!("../../scripts/examples.txt"), include_str!("../../scripts/examples.out")),
 ];
 
 #[test]
@@ -45,4 +46,33 @@ fn the_story_has_each_command_accepted() {
         let header = String::from_utf8_lossy(command.header()).replace('?', "!");
         assert!(answers.iter().any(|(outcome, response)| *outcome == 0 && response.starts_with(&header)), "{header}");
     }
+}
+
+/// The response to the call that a line hands in.
+fn response_to(line: usize, output: &str) -> &str {
+    let answer = output.lines().find(|answer| answer.split(' ').next() == Some(&line.to_string())).unwrap();
+    answer.splitn(4, ' ').nth(3).unwrap()
+}
+
+#[test]
+fn the_examples_are_answered_as_the_papers_print_them() {
+    let (_, script, output) = SCRIPTS[3];
+    let lines: Vec<&str> = std::str::from_utf8(script).unwrap().lines().collect();
+    let (mut same, mut other) = (0, 0);
+    for (place, line) in lines.iter().enumerate() {
+        let call = || {
+            let next = (place..lines.len()).find(|k| lines[*k].starts_with("send ") || lines[*k].starts_with("raw "));
+            response_to(next.unwrap() + 1, output)
+        };
+        // The papers print some responses without their checksum.
+        let is_printed = |text: &str| call() == text || call()[..call().len() - 4] == *text;
+        if let Some(text) = line.strip_prefix("# printed: ") {
+            assert!(is_printed(text), "line {}: {text} is printed, {} is answered", place + 1, call());
+            same += 1;
+        } else if let Some(text) = line.strip_prefix("# printed, and not here: ") {
+            assert!(!is_printed(text), "line {}: {text} is printed, and answered", place + 1);
+            other += 1;
+        }
+    }
+    assert_eq!((same, other), (15, 7));
 }

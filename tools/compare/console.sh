@@ -1,8 +1,9 @@
 #!/usr/bin/env bash
 # Compares a console with the second implementation's on scripts: tools/compare/console.sh PROGRAM SCRIPTS..
-# Before diff the fields of SM?GL are sorted, since their sequence is open (reference/src/bin/sort_lists.rs). A line `show`
-# is handed in as a comment, since it is text for people. Without arguments the comparison tries itself, and then compares
-# the console of crates/ on the repository's scripts and on random ones; what it prints on the former is held to their files, too.
+# Before diff the fields of SM?GL are sorted, since their sequence is open (reference/src/bin/sort_lists.rs). A line
+# `show` is handed in as a comment, since it is text for people. Without arguments the comparison tries itself, and then
+# compares the console of crates/ on the repository's scripts and on random ones; what it prints on the former is held to
+# their files, too.
 set -eu -o pipefail
 top=$(cd "$(dirname "$0")/../.." && pwd)
 (cd "$top/reference" && cargo build --quiet --offline --release --bin console --bin random_script --bin sort_lists)
@@ -45,7 +46,10 @@ finds() { if changed "$1" > /dev/null; then echo "console: no difference found w
 
 changed cat
 # Lists in another sequence, with their checksums, are no difference.
-changed "sed 's/PA~PB~7FFA/PB~PA~8FBE/; s/PNORTH~PSOUTH~DF54/PSOUTH~PNORTH~8F61/'" > /dev/null || { echo "console: a list in another sequence is taken for a difference"; exit 1; }
+changed "sed 's/PA~PB~7FFA/PB~PA~8FBE/; s/PNORTH~PSOUTH~DF54/PSOUTH~PNORTH~8F61/'" > /dev/null || {
+    echo "console: a list in another sequence is taken for a difference"
+    exit 1
+}
 finds "sed 's/PA~PB~7FFA/PB~PA~7FFA/'"
 finds "sed 's/PA~PB~7FFA/PA~PA~8FFA/'"
 finds "sed '\$d'"
@@ -58,7 +62,8 @@ echo "console: the comparison finds wrong consoles"
 
 (cd "$top" && rt check console) | grep -E '^rt: (console|ok)'
 for script in "$top"/scripts/*.txt; do
-    LC_ALL=C sed 's/^show$/#/' "$script" | "$top/target/bin/console" | diff --text "${script%.txt}.out" - > "$work/difference" || {
+    LC_ALL=C sed 's/^show$/#/' "$script" | "$top/target/bin/console" |
+        diff --text "${script%.txt}.out" - > "$work/difference" || {
         echo "$script: stored <, printed >"
         head -n 20 "$work/difference"
         exit 1

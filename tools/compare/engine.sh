@@ -1,5 +1,6 @@
 #!/usr/bin/env bash
-# Links the engine's static library into callers in C and Rust, and compares it with the second implementation of reference/, call by call: tools/compare/engine.sh [calls [seed]].
+# Links the engine's static library into callers in C and Rust, and compares it with the second implementation of
+# reference/, call by call: tools/compare/engine.sh [calls [seed]].
 set -eu -o pipefail
 cd "$(dirname "$0")/../.."
 rt staticlib diminurel | grep -E '^rt: '

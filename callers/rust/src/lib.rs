@@ -1,6 +1,10 @@
-//! A safe wrapper of the two entry points of `include/diminurel.h`: safe for rows, supplements, requests and buffers of any content and any length.
+//! A safe wrapper of the two entry points of `include/diminurel.h`: safe for rows, supplements, requests and buffers of
+//! any content and any length.
 
 #![no_std]
+
+/// The version of the library, as `include/diminurel.h` has it.
+pub const VERSION: &str = env!("CARGO_PKG_VERSION");
 
 /// All zero is free; else the state is 1 PENDING, 2 LOADING or 3 IDLE.
 #[repr(C)]
@@ -33,7 +37,8 @@ pub struct Supplement {
     pub passed: u8,
 }
 
-/// The outcome (0, or the refusal's number), the slot state that is left (255 where there is none), and the length of the response.
+/// The outcome (0, or the refusal's number), the slot state that is left (255 where there is none), and the length of the
+/// response.
 #[repr(C)]
 #[derive(Clone, Copy, PartialEq, Eq, Debug)]
 pub struct Reply {
@@ -73,7 +78,8 @@ pub fn handle(
     request: &[u8],
     response: &mut [u8],
 ) -> Reply {
-    // The engine has no precondition but that each slice is valid for its length and none overlaps another that is written, which references are.
+    // The engine has no precondition but that each slice is valid for its length and none overlaps another that is
+    // written, which references are.
     unsafe {
         diminurel_handle(
             slots.as_mut_ptr(),

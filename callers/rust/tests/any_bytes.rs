@@ -1,4 +1,5 @@
-//! Arbitrary bytes everywhere: an outcome from 0 to 21, no byte beyond the response changed, and no row changed by a refusal.
+//! Arbitrary bytes everywhere: an outcome from 0 to 21, no byte beyond the response changed, and no row changed by a
+//! refusal.
 
 use diminurel::{handle, usable, Register, Slot, Supplement};
 
