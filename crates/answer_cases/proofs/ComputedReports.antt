@@ -6,7 +6,7 @@ use Prim.Native.Nat.{ℕ}
 use lib.ListN.{replicate}
 use Rattle.octets.specs.Texts.{text}
 use Rattle.crc.specs.Crc.{crcBit, crcEight, crcByte}
-use Rattle.hexadecimal.specs.Hex.{hexDigit, hexValue, fromDigits, readHex4}
+use Rattle.hexadecimal.specs.Hex.{hexDigit}
 use Rattle.checksum.specs.Checksum.{sumDigits, endsInSum}
 use Rattle.text.specs.Classes.{isAlphanumeric, areAll}
 use Rattle.text.specs.Identifiers.{isIdentifier}
@@ -110,7 +110,7 @@ EachReported [] = Unit {0}
 EachReported (r ∷ rs) = (answerOf (callOf reported (hand (r .request))) .response (r .sequence) ≡ r .answer) × EachReported rs
 
 pub each-reported : EachReported reports
-unfolding crcBit crcEight crcByte hexDigit hexValue fromDigits readHex4 sumDigits endsInSum isAlphanumeric areAll isIdentifier isUnpadded isNumber daysIn isDate isTime momentOf timestampOf isTimestamp typed valuesOf contentBytes endsInReturn isWhole isChecked textOf headerOf payloadOf ending framed answered headBytes headers commandOf responseBytes bodyOf field isRecord isAlgorithm table nameOf valueOf fits isCardFrom isMet isIncoming identityInForm keyInForm padded trimmed isVacant attributeOf isRegisterSound isSameKey freeRegister isZeroSlot isNamed isFilledSlot isSlotSound isSameSlot freeSlot filledSlot isOwned areSound isIdentityRight isLoadRequestRight isWellFormed areFieldsOf recordIn areCounts questions refused answers.answered listed answerOf isStored isEntryOf inRow filledRegister isOctets isUnder isKeyOf slotIn slotNamed isFilled slotNames stateText slotFields queryFields decDigits decimalBytes
+unfolding crcBit crcEight crcByte hexDigit sumDigits endsInSum isAlphanumeric areAll isIdentifier isUnpadded isNumber daysIn isDate isTime momentOf timestampOf isTimestamp typed valuesOf contentBytes endsInReturn isWhole isChecked textOf headerOf payloadOf ending framed answered headBytes headers commandOf responseBytes bodyOf field isRecord isAlgorithm table nameOf valueOf fits isCardFrom isMet isIncoming identityInForm keyInForm padded trimmed isVacant attributeOf isRegisterSound isSameKey freeRegister isZeroSlot isNamed isFilledSlot isSlotSound isSameSlot freeSlot filledSlot isOwned areSound isIdentityRight isLoadRequestRight isWellFormed areFieldsOf recordIn areCounts questions refused answers.answered listed answerOf isStored isEntryOf inRow filledRegister isOctets isUnder isKeyOf slotIn slotNamed isFilled slotNames stateText slotFields queryFields decDigits decimalBytes
 each-reported = (refl, (refl, (refl, (refl, (refl, (refl, tt))))))
 
 -- which key may vend: that of register 1, under B, where B is IDLE, and not while B is PENDING or LOADING; no register that is free, 0 or beyond the rows

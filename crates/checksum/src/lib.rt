@@ -4,7 +4,7 @@ ghost use mathlib.Core.Path.{_≡_};
 ghost use Prim.Native.Nat.{_+_, _-_, _≤_};
 ghost use lib.ListN.{length, take, drop};
 ghost use Rattle.octets.specs.Wrote.{Wrote};
-ghost use Rattle.checksum.specs.Checksum.{sumOf, sumDigits, isSum, endsInSum};
+ghost use Rattle.checksum.specs.Checksum.{sumOf, sumDigits, endsInSum};
 
 // Of which kind the CRC is: of a message, or of a record.
 pub enum Kind {
@@ -21,15 +21,6 @@ fn sum_of(kind: Kind, s: &[u8]) -> u16
     }
 }
 
-fn is_sum(h: Hex4, n: u16) -> bool
-    ensures { λ r. ⌜ r ≡ isSum h n ⌝ }
-{
-    match h {
-        Hex4::Number(v) => v == n,
-        Hex4::Bad => false,
-    }
-}
-
 // Whether s ends in the four digits of what stands before them.
 pub fn ends_in_sum(kind: Kind, s: &[u8]) -> bool
     ensures { λ r. ⌜ r ≡ endsInSum kind (now (s .entry)) ⌝ }
@@ -39,7 +30,11 @@ pub fn ends_in_sum(kind: Kind, s: &[u8]) -> bool
     }
     let n = s.len() - 4;
     let c = sum_of(kind, &s[..n]);
-    is_sum(hexadecimal::read_hex4(s, n), c)
+    let read = hexadecimal::read_hex4(s, n);
+    match read {
+        Hex4::Number(v) => v == c,
+        Hex4::Bad => false,
+    }
 }
 
 // Writes the four digits of the bytes from a place up to `to` behind them, and answers the place after the digits.

@@ -6,8 +6,8 @@ use Prim.Native.Nat.{ℕ}
 use lib.Dec.{eqb, leb}
 use lib.ListN.{length}
 use Rattle.crc.specs.Crc.{crcBit, crcEight, crcByte}
-use Rattle.hexadecimal.specs.Hex.{hexValue, fromDigits, readHex4}
-use Rattle.checksum.specs.Checksum.{endsInSum}
+use Rattle.hexadecimal.specs.Hex.{hexDigit}
+use Rattle.checksum.specs.Checksum.{sumDigits, endsInSum}
 use Rattle.text.specs.Classes.{isAlphanumeric, isMark, areAll}
 use Rattle.text.specs.Identifiers.{isIdentifier}
 use Rattle.calendar.specs.Calendar.{isLeap, daysIn, isDate, isTime}
@@ -22,7 +22,7 @@ use Rattle.console_verbs.specs.declared.Part.the-variants.{Clock, Identity, Loa
 use Rattle.console_supplement.specs.Parts.{fitted, withPart, blank, startSupplement}
 
 pub start-in-form : isWellFormed startSupplement ≡ true
-unfolding isWellFormed isIdentityRight isLoadRequestRight crcBit crcEight crcByte hexValue fromDigits readHex4 endsInSum isAlphanumeric isMark areAll isIdentifier isLeap daysIn isDate isTime momentOf timestampOf isTimestamp bodyOf field isRecord identityInForm padded fitted blank startSupplement
+unfolding isWellFormed isIdentityRight isLoadRequestRight crcBit crcEight crcByte hexDigit sumDigits endsInSum isAlphanumeric isMark areAll isIdentifier isLeap daysIn isDate isTime momentOf timestampOf isTimestamp bodyOf field isRecord identityInForm padded fitted blank startSupplement
 start-in-form = refl
 
 -- the bytes fit the part's place

@@ -88,7 +88,7 @@ module _ (d : ℕ) (p : isOf Printable d ≡ true) (h : isOf Hexadecimal d ≡ f
       let s = b ++ sumDigits Modbus b in
       let q : pieces d s ≡ kind ∷ fields = built-pieces in
       let i : sameBytes (getD (pieces d s) 0 []) kind ≡ true = rw q (same-self kind) in
-      let j : endsInSum Modbus s ≡ true = sum-ends Modbus b (printable-bytes b built-printable) in
+      let j : endsInSum Modbus s ≡ true = sum-ends Modbus b in
       let k : isEnded d (bodyOf s) ≡ true = rw (body-back b) (joined-ended d (kind ∷ fields)) in
       let l : allOf (isOf Printable) s ≡ true = all-append (isOf Printable) b (sumDigits Modbus b) built-printable (digits-printable b built-printable) in
       let m : eqb (length (pieces d s)) (length fields + 1) ≡ true = eq-eqb (length (pieces d s)) (length fields + 1) (ap length q ∙ omega arith) in
