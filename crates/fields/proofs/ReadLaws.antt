@@ -18,6 +18,7 @@ use Rattle.text.specs.declared.Class.the-variants.{Text, Hexadecimal}
 use Rattle.decimals.specs.Decimals.{decimal, isNumber}
 use Rattle.decimals.proofs.NumberLaws.{number-short, number-most}
 use Rattle.timestamp.specs.Timestamps.{dateTimeOf, isMoment, isDateTime}
+use Rattle.timestamp.proofs.MomentLaws.{date-time-moment}
 use Rattle.timestamp.specs.declared.Moment as timestamp
 use Rattle.fields.specs.Values.{Value, number, bad, isOctets, provided, typed, valueOf, valuesOf, first, valueAt, after, nextAt}
 use Rattle.fields.specs.Bounds.{meant, Within, numberOf, placeAfter}
@@ -37,8 +38,7 @@ module _ (v : List ℕ) where
 
 -- is_date_time
 pub date-judged : (v : List ℕ) (m : timestamp.Moment) → m ≡ dateTimeOf v → (r : Bool) → r ≡ isMoment m → r ≡ isDateTime v
-unfolding isDateTime
-date-judged v m p r q = rw (q, p)
+date-judged v m p r q = q ∙ ap isMoment p ∙ date-time-moment v
 
 -- number_of
 module _ (v : List ℕ) (t : Bool) (p : t ≡ isNumber 10 0 2147483647 v) where

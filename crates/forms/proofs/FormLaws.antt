@@ -1,5 +1,5 @@
 -- The cases of the forms, each with what the code knows where it answers as premises.
-use mathlib.Core.Path.{_≡_}
+use mathlib.Core.Path.{_≡_, ap, _∙_}
 use mathlib.Core.Bool.{Bool, true, false}
 use mathlib.Core.List.{List}
 use Prim.Native.Nat.{ℕ, _≤_, _<_}
@@ -11,6 +11,7 @@ use Rattle.text.specs.Identifiers.{isIdentifier}
 use Rattle.text.specs.declared.Class.the-variants.{Digit, Hexadecimal}
 use Rattle.decimals.specs.Decimals.{isNumber}
 use Rattle.timestamp.specs.Timestamps.{timestampOf, isMoment, isTimestamp}
+use Rattle.timestamp.proofs.MomentLaws.{timestamp-moment}
 use Rattle.timestamp.specs.declared.Moment.{Moment}
 use Rattle.forms.specs.Forms.{isAlgorithm, inForm}
 use Rattle.forms.specs.declared.Form.{Form}
@@ -18,8 +19,7 @@ use Rattle.forms.specs.declared.Form.the-variants.{Timestamp, Algorithm,
 
 -- is_timestamp
 pub a-timestamp : (v : List ℕ) (m : Moment) → m ≡ timestampOf v → (r : Bool) → r ≡ isMoment m → r ≡ isTimestamp v
-unfolding isTimestamp
-a-timestamp v m e r p = rw (← e, p)
+a-timestamp v m e r p = p ∙ ap isMoment e ∙ timestamp-moment v
 
 -- is_algorithm
 module _ (v : List ℕ) where
