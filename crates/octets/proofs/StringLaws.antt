@@ -1,6 +1,6 @@
 -- Loops over byte strings: two compared, the run at the front counted, every byte tested.
 use mathlib.Core.Path.{_≡_, refl, sym, ap, _∙_}
-use mathlib.Core.Bool.{Bool, true, false, cond, not, _&&_, and-false}
+use mathlib.Core.Bool.{Bool, true, false, cond, not, _&&_, and-true, and-false, and-assoc}
 use mathlib.Core.List.{List, [], _∷_, _++_}
 use Prim.Native.Nat.{ℕ, zero, suc, _+_, _-_, _≤_, _<_, zero-le}
 use native.Mathlib.Nat.{sub-zero, zero-sub, suc-sub-suc}
@@ -59,6 +59,13 @@ module _ (a b : List ℕ) (i : ℕ) (x : Bool) (inv : sameBytes (drop i a) (drop
     same-turn o = rw (eq-eqb (getD a i 0) (getD b i 0) o) at (sym (same-cons a b i h (omega arith)) ∙ inv)
 
 -- the test is equality
+-- one byte more behind strings of the same length
+pub same-behind : (p q : List ℕ) (x y : ℕ) → length p ≡ length q → sameBytes (p ++ (x ∷ [])) (q ++ (y ∷ [])) ≡ (sameBytes p q && eqb x y)
+same-behind [] [] x y e = and-true (eqb x y)
+same-behind [] (b ∷ q) x y e = absurd (omega arith)
+same-behind (a ∷ p) [] x y e = absurd (omega arith)
+same-behind (a ∷ p) (b ∷ q) x y e = rw (same-behind p q x y (omega arith)) (sym (and-assoc (eqb a b) (sameBytes p q) (eqb x y)))
+
 pub same-self : (a : List ℕ) → sameBytes a a ≡ true
 same-self [] = refl
 same-self (x ∷ xs) = rw (eq-eqb x x refl) (same-self xs)
