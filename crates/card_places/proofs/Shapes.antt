@@ -18,6 +18,7 @@ use Rattle.decimals.specs.Decimals.{decimal, isUnpadded, isNumber}
 use Rattle.timestamp.specs.Timestamps.{isTimestamp}
 use Rattle.timestamp.proofs.Plain.{timestamp-length, timestamp-date, timestamp-time, timestamp-t, timestamp-z}
 use Rattle.forms.specs.Forms.{isAlgorithm, inForm}
+use Rattle.forms.proofs.FormBounds.{algorithm-is}
 use Rattle.forms.specs.declared.Form.{Form}
 use Rattle.forms.specs.declared.Form.the-variants.{Timestamp, Algorithm, Number, Digits, Hex}
 use Rattle.cards.specs.Entries.{nameOf, nameBytes}
@@ -89,21 +90,16 @@ from-zero-told high m (b ∷ []) l =
 from-zero-told high m (b ∷ c ∷ v) l = absurd (omega arith)
 
 -- 02 or 04
-algorithm-fits : (v : List ℕ) → isAlgorithm v ≡ true → length v ≡ 2 → fits (text "04") v ≡ true
-unfolding isAlgorithm fitsByte
-algorithm-fits [] e l = absurd (omega arith)
-algorithm-fits (a ∷ []) e l = absurd (omega arith)
-algorithm-fits (a ∷ b ∷ []) e l =
-    let i : a ≡ 48 = eqb-true a 48 (and-first (eqb a 48) (eqb b 50 || eqb b 52) e) in
-    ⊎-elim (λ (o : eqb b 50 ≡ true). rw (i, eqb-true b 50 o)) (λ (o : eqb b 52 ≡ true). rw (i, eqb-true b 52 o)) (or-cases (eqb b 50) (eqb b 52) (and-second (eqb a 48) (eqb b 50 || eqb b 52) e))
-algorithm-fits (a ∷ b ∷ c ∷ v) e l = absurd (omega arith)
+algorithm-fits : (v : List ℕ) → isAlgorithm v ≡ true → fits (text "04") v ≡ true
+unfolding fitsByte
+algorithm-fits v e = ⊎-elim (λ (p : v ≡ text "02"). rw p) (λ (p : v ≡ text "04"). rw p) (algorithm-is v e)
 
 -- what a form says besides, where the shape is a part of it
 besides : (f : Form) (shape v : List ℕ) → (inForm f v ≡ true → fits shape v ≡ true) → inForm f v ≡ (fits shape v && inForm f v)
 besides f shape v h = both-ways (inForm f v) (fits shape v && inForm f v) (λ e. and-both (fits shape v) (inForm f v) (h e) e) (and-second (fits shape v) (inForm f v))
 
 pub algorithm-told : Told Algorithm (text "04") (inForm Algorithm)
-algorithm-told v l = besides Algorithm (text "04") v (λ e. algorithm-fits v e l)
+algorithm-told v l = besides Algorithm (text "04") v (λ e. algorithm-fits v e)
 
 -- a timestamp
 abbrev pub stampShape : List ℕ
