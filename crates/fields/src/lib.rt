@@ -4,7 +4,7 @@ ghost use mathlib.Core.Path.{_≡_};
 ghost use Prim.Native.Nat.{_+_, _-_, _^_, _≤_, _<_};
 ghost use lib.ListN.{length, take, drop};
 ghost use Rattle.fields.specs.Values.{isOctets, typed, valueAt, nextAt};
-ghost use Rattle.fields.specs.Bounds.{meant, Within, numberOf, placeAfter};
+ghost use Rattle.fields.specs.Bounds.{fieldValue, Within, numberOf, placeAfter};
 ghost use Rattle.timestamp.specs.Timestamps.{isDateTime};
 
 // A field that was read: a number by its value, a string, date or hex octets by the bounds of its content in the payload; or none.
@@ -49,7 +49,7 @@ fn number_of(v: &[u8]) -> Field
 // The field of a type whose content stands from start to end.
 fn field_of(kind: u8, s: &[u8], start: usize, end: usize) -> Field
     requires { ⌜ (start ≤ end) × (end ≤ length (now s)) ⌝ }
-    ensures { λ r. ⌜ meant (now (s .entry)) r ≡ typed kind (take (end - start) (drop start (now (s .entry)))) ⌝ }
+    ensures { λ r. ⌜ fieldValue (now (s .entry)) r ≡ typed kind (take (end - start) (drop start (now (s .entry)))) ⌝ }
     ensures within { λ r. ⌜ Within (length (now (s .entry))) r ⌝ }
 {
     let v = &s[start..end];
@@ -78,7 +78,7 @@ fn field_of(kind: u8, s: &[u8], start: usize, end: usize) -> Field
 
 // The field at a place, and the place after it.
 pub fn read_field(s: &[u8], at: usize) -> Read
-    ensures { λ r. ⌜ meant (now (s .entry)) (r .field) ≡ valueAt (now (s .entry)) at ⌝ }
+    ensures { λ r. ⌜ fieldValue (now (s .entry)) (r .field) ≡ valueAt (now (s .entry)) at ⌝ }
     ensures within { λ r. ⌜ Within (length (now (s .entry))) (r .field) ⌝ }
     ensures next { λ r. ⌜ r .next ≡ nextAt (now (s .entry)) at ⌝ }
 {
