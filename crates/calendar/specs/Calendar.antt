@@ -1,4 +1,5 @@
--- The Gregorian calendar, years 1900 to 9999, and the time of day, no leap seconds (document 01; 001 Table 6; 003 clause 5.1.4).
+-- The Gregorian calendar, years 1900 to 9999, and the time of day, no leap seconds (document 01; 001 Table 6; 003
+-- clause 5.1.4).
 use Prim.Native.Nat.{ℕ, _%_}
 use mathlib.Core.Bool.{Bool, cond, not, _&&_, _||_}
 use mathlib.Core.List.{[], _∷_}

@@ -1,5 +1,5 @@
-// Dates and times of day by numbers of two digits: Gregorian, years 1900 to 9999, no leap seconds (document 01, "What the
-// caller lends"; 001 Table 6).
+// Dates and times of day by numbers of two digits: Gregorian, years 1900 to 9999, no leap seconds (document 01, "What
+// the caller lends"; 001 Table 6).
 ghost use mathlib.Core.Path.{_≡_};
 ghost use mathlib.Core.Bool.{_&&_};
 ghost use Prim.Native.Nat.{_+_, _*_, _≤_};
@@ -33,8 +33,8 @@ fn days_in(century: u64, year: u64, month: u64) -> u64
     }
 }
 
-// Whether a century, the year in it (00 to 99), a month and a day are a date. How many days the month has is asked only of
-// the days after the 28th.
+// Whether a century, the year in it (00 to 99), a month and a day are a date. How many days the month has is asked
+// only of the days after the 28th.
 pub fn is_day(century: u64, year: u64, month: u64, day: u64) -> bool
     ensures { λ r. ⌜ r ≡ (leb year 99 && isDate (century * 100 + year) month day) ⌝ }
 {

@@ -21,16 +21,16 @@ fn sum_of(kind: Kind, s: &[u8]) -> u16
     }
 }
 
-// Whether s ends in the four digits of what stands before them.
-pub fn ends_in_sum(kind: Kind, s: &[u8]) -> bool
-    ensures { λ r. ⌜ r ≡ endsInSum kind (now (s .entry)) ⌝ }
+// Whether the bytes end in the four digits of what stands before them.
+pub fn ends_in_sum(kind: Kind, bytes: &[u8]) -> bool
+    ensures { λ r. ⌜ r ≡ endsInSum kind (now (bytes .entry)) ⌝ }
 {
-    if s.len() < 4 {
+    if bytes.len() < 4 {
         return false;
     }
-    let n = s.len() - 4;
-    let c = sum_of(kind, &s[..n]);
-    let read = hexadecimal::read_hex4(s, n);
+    let n = bytes.len() - 4;
+    let c = sum_of(kind, &bytes[..n]);
+    let read = hexadecimal::read_hex4(bytes, n);
     match read {
         Hex4::Number(v) => v == c,
         Hex4::Bad => false,
@@ -40,7 +40,8 @@ pub fn ends_in_sum(kind: Kind, s: &[u8]) -> bool
 // Writes the four digits of the bytes from a place up to `to` behind them, and answers the place after the digits.
 pub fn put_sum(kind: Kind, dst: &mut [u8], from: usize, to: usize) -> usize
     requires { ⌜ (from ≤ to) × (to + 4 ≤ length (now dst)) ⌝ }
-    ensures { λ r. ⌜ Wrote (now (dst .entry)) to (sumDigits kind (take (to - from) (drop from (now (dst .entry))))) (now (dst .exit)) r ⌝ }
+    ensures { λ r. ⌜ Wrote (now (dst .entry)) to (sumDigits kind (take (to - from) (drop from (now (dst .entry)))))
+        (now (dst .exit)) r ⌝ }
     ensures short { λ r. ⌜ r ≡ to + 4 ⌝ }
 {
     let c = sum_of(kind, &dst[from..to]);

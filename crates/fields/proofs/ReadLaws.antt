@@ -57,9 +57,9 @@ module _ (v : List ℕ) (t : Bool) (p : t ≡ isNumber 10 0 2147483647 v) where
     pub number-small : (n : ℕ) → n ≡ decimal v → n < 2 ^ 32
     number-small n e = omega (arith, number-most 10 0 2147483647 v (sym p ∙ not-false t o))
 
-number-meant : (s v : List ℕ) (t : Bool) → fieldValue s (cond t (code.Number (decimal v)) code.Bad) ≡ provided t (number (decimal v))
-number-meant s v true = refl
-number-meant s v false = refl
+number-value : (s v : List ℕ) (t : Bool) → fieldValue s (cond t (code.Number (decimal v)) code.Bad) ≡ provided t (number (decimal v))
+number-value s v true = refl
+number-value s v false = refl
 
 number-inside : (n : ℕ) (v : List ℕ) (t : Bool) → Within n (cond t (code.Number (decimal v)) code.Bad)
 number-inside n v true = tt
@@ -72,7 +72,7 @@ module _ (s : List ℕ) (k start end : ℕ) where
 
   pub of-number : k ≡ 78 → (r : Field) → r ≡ numberOf v → fieldValue s r ≡ typed k v
   unfolding typed numberOf
-  of-number e r p = rw (e, p) (number-meant s v (isNumber 10 0 2147483647 v))
+  of-number e r p = rw (e, p) (number-value s v (isNumber 10 0 2147483647 v))
 
   pub number-within : (n : ℕ) (r : Field) → r ≡ numberOf v → Within n r
   unfolding numberOf
@@ -119,12 +119,12 @@ after-field (code.Octets a b) at e k = refl
 after-field code.Bad at e k = absurd (⊎-elim (λ (p : 4 ≡ 0). omega arith) (λ l. ⊎-elim (λ (p : 4 ≡ 1). omega arith) (λ m. ⊎-elim (λ (p : 4 ≡ 2). omega arith) (λ (p : 4 ≡ 3). omega arith) m) l) k)
 
 -- the place after a field is that of its value
-after-meant : (s : List ℕ) (f : Field) (at e : ℕ) → placeAfter f at e ≡ after (fieldValue s f) at e
-after-meant s (code.Number n) at e = refl
-after-meant s (code.Text a b) at e = refl
-after-meant s (code.Date a b) at e = refl
-after-meant s (code.Octets a b) at e = refl
-after-meant s code.Bad at e = refl
+after-value : (s : List ℕ) (f : Field) (at e : ℕ) → placeAfter f at e ≡ after (fieldValue s f) at e
+after-value s (code.Number n) at e = refl
+after-value s (code.Text a b) at e = refl
+after-value s (code.Date a b) at e = refl
+after-value s (code.Octets a b) at e = refl
+after-value s code.Bad at e = refl
 
 stays : (s : List ℕ) (at : ℕ) → bad ≡ valueAt s at → at ≡ nextAt s at
 unfolding nextAt
@@ -178,7 +178,7 @@ module _ (s : List ℕ) (at : ℕ) where
 
           pub next-here : (n : ℕ) → n ≡ placeAfter r at e → n ≡ nextAt s at
           unfolding nextAt
-          next-here n k = k ∙ after-meant s r at e ∙ ap (λ (v : Value). after v at e) field-here ∙ ap (after (valueAt s at) at) p
+          next-here n k = k ∙ after-value s r at e ∙ ap (λ (v : Value). after v at e) field-here ∙ ap (after (valueAt s at) at) p
 
 -- the bounds of a field that was read
 module _ (n : ℕ) (f : Field) (w : Within n f) (a e : ℕ) where

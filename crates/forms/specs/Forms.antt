@@ -12,7 +12,8 @@ use Rattle.text.specs.declared.Class.the-variants as class
 use Rattle.decimals.specs.Decimals.{isNumber}
 use Rattle.timestamp.specs.Timestamps.{isTimestamp}
 use Rattle.forms.specs.declared.Form.{Form}
-use Rattle.forms.specs.declared.Form.the-variants.{Timestamp, Algorithm, Number, Digits, Hex, HexSome, Name, Empty}
+use Rattle.forms.specs.declared.Form.the-variants.{Timestamp, Algorithm, Number, Digits}
+use Rattle.forms.specs.declared.Form.the-variants.{Hex, HexSome, Name, Empty}
 
 -- document 01, Cards: DKG (02 or 04)
 unfoldable pub isAlgorithm : List ℕ → Bool

@@ -1,4 +1,5 @@
--- The frame of a message: header, payload, checksum, carriage return (001 clauses 5.2 and 5.3; document 01, Checksum and fields).
+-- The frame of a message: header, payload, checksum, carriage return (001 clauses 5.2 and 5.3; document 01, Checksum
+-- and fields).
 use Prim.Native.Nat.{ℕ, _-_}
 use mathlib.Core.Bool.{Bool}
 use mathlib.Core.List.{List, [], _∷_, _++_}

@@ -1,5 +1,5 @@
--- Hexadecimal digits, 0-9 and A-F, capitals only (document 01; 003 clause 5.1.1), and a 16-bit number as four of them, the
--- high digit first.
+-- Hexadecimal digits, 0-9 and A-F, capitals only (document 01; 003 clause 5.1.1), and a 16-bit number as four of
+-- them, the high digit first.
 use Prim.Native.Nat.{ℕ, _+_, _-_, _*_, _/_, _%_}
 use mathlib.Core.Bool.{cond}
 use mathlib.Core.List.{List, [], _∷_}

@@ -1,5 +1,5 @@
--- Identities (003 clause 7.1; document 01, Records): type, manufacturer or SWID, name, timestamp, fingerprint, split by a
--- colon. What parses (question 9) apart from what is in form (question 10).
+-- Identities (003 clause 7.1; document 01, Records): type, manufacturer or SWID, name, timestamp, fingerprint, split
+-- by a colon. What parses (question 9) apart from what is in form (question 10).
 use Prim.Native.Nat.{ℕ}
 use Prim.Native.Char.{code}
 use mathlib.Core.Bool.{Bool}

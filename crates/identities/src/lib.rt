@@ -1,4 +1,5 @@
-// Identities of key management centres and modules (003 clause 7.1; document 01, "Records"), and the form of a record's fields.
+// Identities of key management centres and modules (003 clause 7.1; document 01, "Records"), and the form of a
+// record's fields.
 use forms::Form;
 ghost use mathlib.Core.Path.{_≡_};
 ghost use Rattle.records.specs.Records.{field};

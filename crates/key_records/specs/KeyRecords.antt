@@ -1,5 +1,5 @@
--- The records of key management (document 01, Records; 003 clauses 7.2 to 7.5): what parses, with each identity inside it
--- (question 9), and what is in form (question 10).
+-- The records of key management (document 01, Records; 003 clauses 7.2 to 7.5): what parses, with each identity
+-- inside it (question 9), and what is in form (question 10).
 use Prim.Native.Nat.{ℕ}
 use Prim.Native.Char.{code}
 use mathlib.Core.Bool.{Bool}

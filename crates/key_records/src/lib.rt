@@ -1,4 +1,5 @@
-// Which records parse as the public key, load response and wrapped key of key management: question 9 (003 clauses 7.2 to 7.5; document 01, "Records").
+// Which records parse as the public key, load response and wrapped key of key management: question 9 (003 clauses 7.2
+// to 7.5; document 01, "Records").
 ghost use mathlib.Core.Path.{_≡_};
 ghost use Rattle.records.specs.Records.{field};
 ghost use Rattle.identities.specs.Identities.{isKmcIdentity, isModuleIdentity};

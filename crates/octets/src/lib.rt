@@ -7,11 +7,11 @@ ghost use Rattle.octets.specs.Wrote.{Wrote};
 ghost use Rattle.octets.specs.Strings.{sameBytes};
 
 // Writes one byte, and answers the place after it.
-pub fn put_byte(dst: &mut [u8], at: usize, b: u8) -> usize
+pub fn put_byte(dst: &mut [u8], at: usize, byte: u8) -> usize
     requires { ⌜ at < length (now dst) ⌝ }
-    ensures { λ r. ⌜ Wrote (now (dst .entry)) at (b ∷ []) (now (dst .exit)) r ⌝ }
+    ensures { λ r. ⌜ Wrote (now (dst .entry)) at (byte ∷ []) (now (dst .exit)) r ⌝ }
 {
-    dst[at] = b;
+    dst[at] = byte;
     at + 1
 }
 
@@ -31,15 +31,15 @@ pub fn put(dst: &mut [u8], at: usize, src: &[u8]) -> usize
 }
 
 // Whether two byte strings are the same.
-pub fn same_bytes(a: &[u8], b: &[u8]) -> bool
-    ensures { λ r. ⌜ r ≡ sameBytes (now (a .entry)) (now (b .entry)) ⌝ }
+pub fn same_bytes(left: &[u8], right: &[u8]) -> bool
+    ensures { λ r. ⌜ r ≡ sameBytes (now (left .entry)) (now (right .entry)) ⌝ }
 {
-    if a.len() != b.len() {
+    if left.len() != right.len() {
         return false;
     }
     let mut i = 0;
-    while i < a.len() {
-        if a[i] != b[i] {
+    while i < left.len() {
+        if left[i] != right[i] {
             return false;
         }
         i += 1;

@@ -1,5 +1,6 @@
-// One reader goes over the payload and remembers how far it has read (document 01, "Checksum and fields"): a struct with the payload and a place, over functions on slice and number.
-// The functions over the reader are proved by hand and straight-line: what branches stands in `last_field` and in `fields`.
+// One reader goes over the payload and remembers how far it has read (document 01, "Checksum and fields"): a struct
+// with the payload and a place, over functions on slice and number. The functions over the reader are proved by hand
+// and straight-line: what branches stands in `last_field` and in `fields`.
 use fields::Field;
 ghost use mathlib.Core.Path.{_≡_};
 ghost use lib.ListN.{length};
@@ -58,20 +59,22 @@ pub fn last<'a>(r: Reader<'a>) -> Field
 }
 
 // The only field of a payload, else `Bad`.
-pub fn only_field(p: &[u8]) -> Field
-    ensures { λ f. ⌜ fieldValue (now (p .entry)) f ≡ alone (valuesOf (now (p .entry))) ⌝ }
-    ensures within { λ f. ⌜ Within (length (now (p .entry))) f ⌝ }
+pub fn only_field(payload: &[u8]) -> Field
+    ensures { λ f. ⌜ fieldValue (now (payload .entry)) f ≡ alone (valuesOf (now (payload .entry))) ⌝ }
+    ensures within { λ f. ⌜ Within (length (now (payload .entry))) f ⌝ }
 {
-    last(new(p))
+    last(new(payload))
 }
 
 // The two fields of a payload.
-pub fn two_fields(p: &[u8]) -> TwoFields
-    ensures { λ t. ⌜ fieldValue (now (p .entry)) (t .first) ≡ valueAt (now (p .entry)) 0 ⌝ }
-    ensures second { λ t. ⌜ fieldValue (now (p .entry)) (t .second) ≡ lastAt (now (p .entry)) (nextAt (now (p .entry)) 0) ⌝ }
-    ensures within { λ t. ⌜ Within (length (now (p .entry))) (t .first) × Within (length (now (p .entry))) (t .second) ⌝ }
+pub fn two_fields(payload: &[u8]) -> TwoFields
+    ensures { λ t. ⌜ fieldValue (now (payload .entry)) (t .first) ≡ valueAt (now (payload .entry)) 0 ⌝ }
+    ensures second { λ t. ⌜ fieldValue (now (payload .entry)) (t .second)
+        ≡ lastAt (now (payload .entry)) (nextAt (now (payload .entry)) 0) ⌝ }
+    ensures within { λ t. ⌜ Within (length (now (payload .entry))) (t .first)
+        × Within (length (now (payload .entry))) (t .second) ⌝ }
 {
-    let mut r = new(p);
+    let mut r = new(payload);
     let first = next(&mut r);
     let second = last(r);
     TwoFields { first, second }

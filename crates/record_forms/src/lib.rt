@@ -1,4 +1,5 @@
-// Whether the fields of a public key, load response or wrapped key are in form: question 10 (003 clauses 7.2 to 7.5; document 01, "Records").
+// Whether the fields of a public key, load response or wrapped key are in form: question 10 (003 clauses 7.2 to 7.5;
+// document 01, "Records").
 use forms::Form;
 ghost use mathlib.Core.Path.{_≡_};
 ghost use Rattle.records.specs.Records.{field};

@@ -1,5 +1,5 @@
--- Records (003 clause 5.8; document 01, Records): the type and the fields, each ended by the delimiter, then four digits of
--- the CRC-16/MODBUS of all that.
+-- Records (003 clause 5.8; document 01, Records): the type and the fields, each ended by the delimiter, then four
+-- digits of the CRC-16/MODBUS of all that.
 use Prim.Native.Nat.{ℕ, _+_, _-_}
 use mathlib.Core.Bool.{Bool}
 use mathlib.Core.List.{List, [], _∷_, _++_}

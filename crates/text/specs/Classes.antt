@@ -7,7 +7,8 @@ use lib.Dec.{leb, eqb}
 use Rattle.octets.specs.Strings.{allOf}
 use Rattle.octets.specs.Texts.{all}
 use Rattle.text.specs.declared.Class.{Class}
-use Rattle.text.specs.declared.Class.the-variants.{Digit, Hexadecimal, Capital, Identifier, Text, Printable, Value, Zero}
+use Rattle.text.specs.declared.Class.the-variants.{Digit, Hexadecimal, Capital, Identifier}
+use Rattle.text.specs.declared.Class.the-variants.{Text, Printable, Value, Zero}
 
 abbrev pub within : ℕ → ℕ → ℕ → Bool
 within b low high = leb low b && leb b high

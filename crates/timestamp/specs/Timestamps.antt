@@ -1,5 +1,5 @@
--- Timestamps YYYYMMDDThhmmssZ (003 clause 5.1.4) and PTVD dates CCYYMMDDhhmmss (001 Table 6): Gregorian, years 1900 to 9999,
--- no leap seconds (document 01).
+-- Timestamps YYYYMMDDThhmmssZ (003 clause 5.1.4) and PTVD dates CCYYMMDDhhmmss (001 Table 6): Gregorian, years 1900
+-- to 9999, no leap seconds (document 01).
 use Prim.Native.Nat.{ℕ, _+_, _*_}
 use Prim.Native.Char.{code}
 use mathlib.Core.Bool.{Bool, true, false, cond}
