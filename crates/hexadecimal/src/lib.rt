@@ -41,7 +41,7 @@ pub fn hex_value(digit: u8) -> u16
     16
 }
 
-// Writes number as four digits, and answers the place after them.
+// Writes a number as four digits, and answers the place after them.
 pub fn put_hex4(dst: &mut [u8], at: usize, number: u16) -> usize
     requires { ⌜ at + 4 ≤ length (now dst) ⌝ }
     ensures { λ r. ⌜ Wrote (now (dst .entry)) at (hex4 number) (now (dst .exit)) r ⌝ }

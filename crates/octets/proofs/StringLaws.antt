@@ -8,7 +8,7 @@ use native.Mathlib.Numerals.{add-one}
 use native.Mathlib.Omega.{arith}
 use lib.Dec.{eqb, ltb}
 use lib.ListN.{length, getD, take, drop, drop-of-length-le, length-drop}
-use lib.Seq.{drop-cons, take-all, take-nil}
+use lib.Seq.{drop-cons, take-all, take-nil, length-take-le}
 use borrow.Author.Tests.{eq-eqb, ne-eqb, eqb-true, not-true, not-false}
 use Rattle.octets.specs.Strings.{sameBytes, allOf, run}
 use Rattle.octets.proofs.Flags.{nope, and-first, and-second, and-both}
@@ -160,3 +160,14 @@ module _ (f : ℕ → Bool) (s : List ℕ) (i : ℕ) (x : Bool) (inv : allOf f (
 
     pub all-turn : not t ≡ false → allOf f (drop (i + 1) s) ≡ x
     all-turn o = rw (← e, not-false t o) at (sym all-cons ∙ inv)
+
+-- front
+module _ (s : List ℕ) (n : ℕ) where
+  pub whole : length s ≤ n → s ≡ take n s
+  whole h = sym (take-all n s h)
+
+  pub part : take (n - 0) s ≡ take n s
+  part = ap (λ (k : ℕ). take k s) (sub-zero n)
+
+  pub part-short : n < length s → length (take (n - 0) s) ≤ n
+  part-short h = omega (arith, ap length part, length-take-le n s (omega arith))

@@ -1,8 +1,8 @@
-// Byte strings in lent memory: written from a place on, and compared.
+// Byte strings in lent memory: written from a place on, compared, and their front.
 ghost use mathlib.Core.Path.{_≡_};
 ghost use mathlib.Core.List.{[], _∷_};
 ghost use Prim.Native.Nat.{_+_, _≤_, _<_};
-ghost use lib.ListN.{length};
+ghost use lib.ListN.{length, take};
 ghost use Rattle.octets.specs.Wrote.{Wrote};
 ghost use Rattle.octets.specs.Strings.{sameBytes};
 
@@ -45,4 +45,15 @@ pub fn same_bytes(left: &[u8], right: &[u8]) -> bool
         i += 1;
     }
     true
+}
+
+// The first bytes up to a count, or all where there are fewer.
+pub fn front<'a>(bytes: &'a [u8], count: usize) -> &'a [u8]
+    ensures { λ t. ⌜ now t ≡ take count (now (bytes .entry)) ⌝ }
+    ensures short { λ t. ⌜ length (now t) ≤ count ⌝ }
+{
+    if bytes.len() <= count {
+        return bytes;
+    }
+    &bytes[0..count]
 }

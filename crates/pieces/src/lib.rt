@@ -6,7 +6,7 @@ ghost use lib.ListN.{length, drop, getD};
 ghost use Rattle.octets.specs.Strings.{isNot, run};
 ghost use Rattle.pieces.specs.Pieces.{pieces, isEnded};
 
-// Where the piece that starts at a place ends: at its delimiter, or at the end of bytes.
+// Where the piece that starts at a place ends: at its delimiter, or at the end of the bytes.
 pub fn piece_end(bytes: &[u8], at: usize, delimiter: u8) -> usize
     requires { ⌜ at ≤ length (now bytes) ⌝ }
     ensures { λ r. ⌜ r ≡ at + run (isNot delimiter) (drop at (now (bytes .entry))) ⌝ }
@@ -15,7 +15,7 @@ pub fn piece_end(bytes: &[u8], at: usize, delimiter: u8) -> usize
     at + spans::until(&bytes[at..], delimiter)
 }
 
-// The index-th piece, counted from 0, and nothing where there are not so many.
+// The piece of an index, counted from 0, and nothing where there are not so many.
 pub fn piece<'a>(bytes: &'a [u8], delimiter: u8, index: usize) -> &'a [u8]
     ensures { λ r. ⌜ now r ≡ getD (pieces delimiter (now (bytes .entry))) index [] ⌝ }
 {

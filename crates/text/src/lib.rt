@@ -132,7 +132,7 @@ pub fn are_printable(bytes: &[u8]) -> bool
     are_within(bytes, 0x20, 0x7E)
 }
 
-// Whether name is an identifier.
+// Whether a name is an identifier.
 pub fn is_identifier(name: &[u8]) -> bool
     ensures { λ r. ⌜ r ≡ isIdentifier (now (name .entry)) ⌝ }
 {

@@ -102,7 +102,7 @@ pub fn is_moment(moment: Moment) -> bool
     }
 }
 
-// Whether a is a moment later than the moment b.
+// Whether a moment is later than another.
 pub fn is_later(moment: Moment, other: Moment) -> bool
     ensures { λ r. ⌜ r ≡ isLater moment other ⌝ }
 {
