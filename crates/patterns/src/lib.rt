@@ -13,8 +13,8 @@ fn fits_byte(p: u8, b: u8) -> bool
     (p == b) | (smaller | ((p == b'F') & hexadecimal))
 }
 
-// Whether what stands in the bytes from a place on fits a pattern. No byte ends the loop, so that many are compared at a
-// time.
+// Whether what stands in the bytes from a place on fits a pattern. No byte ends the loop, so that many are compared
+// at a time.
 pub fn fits(bytes: &[u8], at: usize, pattern: &[u8]) -> bool
     requires { ⌜ at + length (now pattern) ≤ length (now bytes) ⌝ }
     ensures { λ r. ⌜ r ≡ fits (now (pattern .entry)) (drop at (now (bytes .entry))) ⌝ }
