@@ -5,13 +5,13 @@ use mathlib.Core.Option.{some}
 use Prim.Native.Nat.{ℕ}
 use Rattle.octets.specs.Texts.{text}
 use Rattle.crc.specs.Crc.{crcBit, crcEight, crcByte}
-use Rattle.hexadecimal.specs.Hex.{hexDigit, hexValue, fromDigits, readHex4}
+use Rattle.hexadecimal.specs.Hex.{hexDigit}
 use Rattle.checksum.specs.Checksum.{sumDigits, endsInSum}
 use Rattle.text.specs.Classes.{isAlphanumeric, areAll}
 use Rattle.text.specs.Identifiers.{isIdentifier}
 use Rattle.decimals.specs.Decimals.{isUnpadded, isNumber}
 use Rattle.calendar.specs.Calendar.{daysIn, isDate, isTime}
-use Rattle.timestamp.specs.Timestamps.{momentOf, timestampOf, isTimestamp}
+use Rattle.timestamp.specs.Timestamps.{isDateAndTime, timestampOf, isTimestamp}
 use Rattle.fields.specs.Values.{string, typed, valuesOf, contentBytes}
 use Rattle.frames.specs.Frames.{endsInReturn, isWhole, isChecked, textOf, headerOf, payloadOf, ending, framed, answered}
 use Rattle.commands.specs.Commands.{headers, commandOf}
@@ -74,5 +74,5 @@ EachAnswered (q ∷ qs) =
     (answerOf (callOf loading (hand q)) ≡ record { outcome = Refused BadForm; reply = λ names. some reply10; slots = loading .slots; registers = loading .registers }) × EachAnswered qs
 
 pub each-answered : EachAnswered requests
-unfolding crcBit crcEight crcByte hexDigit hexValue fromDigits readHex4 sumDigits endsInSum isAlphanumeric areAll isIdentifier isUnpadded isNumber daysIn isDate isTime momentOf timestampOf isTimestamp typed valuesOf contentBytes endsInReturn isWhole isChecked textOf headerOf payloadOf ending framed answered headers commandOf bodyOf field isRecord isAlgorithm table nameOf valueOf fits isCardFrom isMet isIncoming identityInForm keyInForm padded trimmed isVacant attributeOf isRegisterSound isSameKey freeRegister isZeroSlot isNamed isFilledSlot isSlotSound isSameSlot freeSlot filledSlot isOwned areSound isIdentityRight isLoadRequestRight isWellFormed areFieldsOf recordIn areCounts questions refused answerOf
+unfolding crcBit crcEight crcByte hexDigit sumDigits endsInSum isAlphanumeric areAll isIdentifier isUnpadded isNumber daysIn isDate isTime isDateAndTime timestampOf isTimestamp typed valuesOf contentBytes endsInReturn isWhole isChecked textOf headerOf payloadOf ending framed answered headers commandOf bodyOf field isRecord isAlgorithm table nameOf valueOf fits isCardFrom isMet isIncoming identityInForm keyInForm padded trimmed isVacant attributeOf isRegisterSound isSameKey freeRegister isZeroSlot isNamed isFilledSlot isSlotSound isSameSlot freeSlot filledSlot isOwned areSound isIdentityRight isLoadRequestRight isWellFormed areFieldsOf recordIn areCounts questions refused answerOf
 each-answered = (refl, (refl, tt))

@@ -6,13 +6,13 @@ use Prim.Native.Nat.{ℕ}
 use lib.ListN.{replicate}
 use Rattle.octets.specs.Texts.{text}
 use Rattle.crc.specs.Crc.{crcBit, crcEight, crcByte}
-use Rattle.hexadecimal.specs.Hex.{hexDigit, hexValue, fromDigits, readHex4}
+use Rattle.hexadecimal.specs.Hex.{hexDigit}
 use Rattle.checksum.specs.Checksum.{sumDigits, endsInSum}
 use Rattle.text.specs.Classes.{isAlphanumeric, areAll}
 use Rattle.text.specs.Identifiers.{isIdentifier}
 use Rattle.decimals.specs.Decimals.{isUnpadded, isNumber}
 use Rattle.calendar.specs.Calendar.{daysIn, isDate, isTime}
-use Rattle.timestamp.specs.Timestamps.{momentOf, timestampOf, isTimestamp}
+use Rattle.timestamp.specs.Timestamps.{isDateAndTime, timestampOf, isTimestamp}
 use Rattle.decimal_writer.specs.Digits.{decDigits, decimalBytes}
 use Rattle.fields.specs.Values.{isOctets, typed, valuesOf, contentBytes}
 use Rattle.frames.specs.Frames.{endsInReturn, isWhole, isChecked, textOf, headerOf, payloadOf, ending, framed, answered}
@@ -110,7 +110,7 @@ EachReported [] = Unit {0}
 EachReported (r ∷ rs) = (response (answerOf (callOf reported (hand (r .request)))) (r .sequence) ≡ r .answer) × EachReported rs
 
 pub each-reported : EachReported reports
-unfolding crcBit crcEight crcByte hexDigit hexValue fromDigits readHex4 sumDigits endsInSum isAlphanumeric areAll isIdentifier isUnpadded isNumber daysIn isDate isTime momentOf timestampOf isTimestamp typed valuesOf contentBytes endsInReturn isWhole isChecked textOf headerOf payloadOf ending framed answered headers commandOf replyBytes bodyOf field isRecord isAlgorithm table nameOf valueOf fits isCardFrom isMet isIncoming identityInForm keyInForm padded trimmed isVacant attributeOf isRegisterSound isSameKey freeRegister isZeroSlot isNamed isFilledSlot isSlotSound isSameSlot freeSlot filledSlot isOwned areSound isIdentityRight isLoadRequestRight isWellFormed areFieldsOf recordIn areCounts questions refused answers.answered listed answerOf isStored isEntryOf inRow filledRegister isOctets isUnder isKeyOf slotIn slotNamed isFilled slotNames stateText slotFields queryFields decDigits decimalBytes
+unfolding crcBit crcEight crcByte hexDigit sumDigits endsInSum isAlphanumeric areAll isIdentifier isUnpadded isNumber daysIn isDate isTime isDateAndTime timestampOf isTimestamp typed valuesOf contentBytes endsInReturn isWhole isChecked textOf headerOf payloadOf ending framed answered headers commandOf replyBytes bodyOf field isRecord isAlgorithm table nameOf valueOf fits isCardFrom isMet isIncoming identityInForm keyInForm padded trimmed isVacant attributeOf isRegisterSound isSameKey freeRegister isZeroSlot isNamed isFilledSlot isSlotSound isSameSlot freeSlot filledSlot isOwned areSound isIdentityRight isLoadRequestRight isWellFormed areFieldsOf recordIn areCounts questions refused answers.answered listed answerOf isStored isEntryOf inRow filledRegister isOctets isUnder isKeyOf slotIn slotNamed isFilled slotNames stateText slotFields queryFields decDigits decimalBytes
 each-reported = (refl, (refl, (refl, (refl, (refl, (refl, tt))))))
 
 -- which key may vend: that of register 1, under B, where B is IDLE, and not while B is PENDING or LOADING; no register that is free, 0 or beyond the rows
@@ -121,10 +121,10 @@ abbrev slotB : SlotState → List ℕ → SlotRow
 slotB state tvp = filledSlot state b printB tvp
 
 pub vends : isUsable (tablesWith (slotB Idle [])) 1 ≡ true
-unfolding areAll isUnpadded isNumber daysIn isDate isTime momentOf timestampOf isTimestamp isAlphanumeric isIdentifier isAlgorithm table nameOf valueOf inRow isEntryOf isStored padded trimmed isVacant attributeOf isKeyOf isRegisterSound isSameKey freeRegister filledRegister isZeroSlot isNamed isFilledSlot isSlotSound isSameSlot freeSlot filledSlot isOwned areSound slotNamed areCounts isFilled isUsable
+unfolding areAll isUnpadded isNumber daysIn isDate isTime isDateAndTime timestampOf isTimestamp isAlphanumeric isIdentifier isAlgorithm table nameOf valueOf inRow isEntryOf isStored padded trimmed isVacant attributeOf isKeyOf isRegisterSound isSameKey freeRegister filledRegister isZeroSlot isNamed isFilledSlot isSlotSound isSameSlot freeSlot filledSlot isOwned areSound slotNamed areCounts isFilled isUsable
 vends = refl
 
 pub vends-not : (isUsable (tablesWith (slotB Pending clock)) 1 ≡ false) × (isUsable (tablesWith (slotB Loading [])) 1 ≡ false)
     × (isUsable (tablesWith (slotB Idle [])) 0 ≡ false) × (isUsable (tablesWith (slotB Idle [])) 2 ≡ false) × (isUsable (tablesWith (slotB Idle [])) 3 ≡ false)
-unfolding areAll isUnpadded isNumber daysIn isDate isTime momentOf timestampOf isTimestamp isAlphanumeric isIdentifier isAlgorithm table nameOf valueOf inRow isEntryOf isStored padded trimmed isVacant attributeOf isKeyOf isRegisterSound isSameKey freeRegister filledRegister isZeroSlot isNamed isFilledSlot isSlotSound isSameSlot freeSlot filledSlot isOwned areSound slotNamed areCounts isFilled isUsable
+unfolding areAll isUnpadded isNumber daysIn isDate isTime isDateAndTime timestampOf isTimestamp isAlphanumeric isIdentifier isAlgorithm table nameOf valueOf inRow isEntryOf isStored padded trimmed isVacant attributeOf isKeyOf isRegisterSound isSameKey freeRegister filledRegister isZeroSlot isNamed isFilledSlot isSlotSound isSameSlot freeSlot filledSlot isOwned areSound slotNamed areCounts isFilled isUsable
 vends-not = (refl, refl, refl, refl, refl)

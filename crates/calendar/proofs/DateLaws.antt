@@ -66,53 +66,51 @@ unless a b x f = by-case (leb a b) refl
     by-case true p = f (leb-true a b p)
     by-case false p = refl
 
--- is_day: the date YYYYMMDD of a century, a year in it, a month and a day
+-- is_day: the date of a century, a year in it, a month and a day
 module _ (c y m d : ℕ) where
-  abbrev number : ℕ
-  number = ((c * 100 + y) * 100 + m) * 100 + d
-
   abbrev isDay : Bool
-  isDay = leb c 99 && (leb y 99 && (leb m 99 && (leb d 99 && isDate number)))
-
-  by-parts : y ≤ 99 → m ≤ 99 → d ≤ 99 → isDate number ≡ (leb 1900 (c * 100 + y) && (leb 1 m && (leb m 12 && (leb 1 d && leb d (daysIn (c * 100 + y) m)))))
-  unfolding isDate
-  by-parts p q r =
-      let a : number / 10000 ≡ c * 100 + y = omega arith in
-      let b : number / 100 % 100 ≡ m = omega arith in
-      let e : number % 100 ≡ d = omega arith in
-      simp (a, b, e)
-
-  no-day : (y ≤ 99 → m ≤ 99 → d ≤ 99 → (leb 1900 (c * 100 + y) && (leb 1 m && (leb m 12 && (leb 1 d && leb d (daysIn (c * 100 + y) m))))) ≡ false) → false ≡ isDay
-  no-day f = sym (unless c 99 _ (λ o. unless y 99 _ (λ p. unless m 99 _ (λ q. unless d 99 _ (λ r. by-parts p q r ∙ f p q r)))))
+  isDay = leb y 99 && isDate (c * 100 + y) m d
 
   pub old-century : c < 19 → false ≡ isDay
-  old-century h = no-day (λ p q r. rw (lt-leb 1900 (c * 100 + y) (omega arith)))
+  unfolding isDate
+  old-century h = sym (unless y 99 _ (λ p. rw (lt-leb 1900 (c * 100 + y) (omega arith))))
 
   pub century-over : 99 < c → false ≡ isDay
-  century-over h = rw (lt-leb c 99 h)
+  unfolding isDate
+  century-over h = simp (lt-leb (c * 100 + y) 9999 (omega arith), and-false)
 
   pub year-over : 99 < y → false ≡ isDay
-  year-over h = simp (lt-leb y 99 h, and-false)
+  year-over h = rw (lt-leb y 99 h)
 
   pub month-zero : m < 1 → false ≡ isDay
-  month-zero h = no-day (λ p q r. simp (lt-leb 1 m h, and-false))
+  unfolding isDate
+  month-zero h = simp (lt-leb 1 m h, and-false)
 
   pub month-over : 12 < m → false ≡ isDay
-  month-over h = no-day (λ p q r. simp (lt-leb m 12 h, and-false))
+  unfolding isDate
+  month-over h = simp (lt-leb m 12 h, and-false)
 
   pub day-zero : d < 1 → false ≡ isDay
-  day-zero h = no-day (λ p q r. simp (lt-leb 1 d h, and-false))
+  unfolding isDate
+  day-zero h = simp (lt-leb 1 d h, and-false)
 
-  day-over : daysIn (c * 100 + y) m < d → false ≡ isDay
-  day-over h = no-day (λ p q r. simp (lt-leb d (daysIn (c * 100 + y) m) h, and-false))
+  pub day-over : daysIn (c * 100 + y) m < d → false ≡ isDay
+  unfolding isDate
+  day-over h = simp (lt-leb d (daysIn (c * 100 + y) m) h, and-false)
 
   module _ (s : 19 ≤ c) (t : c ≤ 99) (p : y ≤ 99) (l : 1 ≤ m) (n : m ≤ 12) (o : 1 ≤ d) where
     a-day : d ≤ daysIn (c * 100 + y) m → true ≡ isDay
+    unfolding isDate
     a-day h =
-        let k = days-range (c * 100 + y) m in
-        let q : m ≤ 99 = omega arith in
-        let r : d ≤ 99 = omega arith in
-        rw (le-leb c 99 t, le-leb y 99 p, le-leb m 99 q, le-leb d 99 r, by-parts p q r, le-leb 1900 (c * 100 + y) (omega arith), le-leb 1 m l, le-leb m 12 n, le-leb 1 d o, le-leb d (daysIn (c * 100 + y) m) h)
+        rw (
+          le-leb y 99 p,
+          le-leb 1900 (c * 100 + y) (omega arith),
+          le-leb (c * 100 + y) 9999 (omega arith),
+          le-leb 1 m l,
+          le-leb m 12 n,
+          le-leb 1 d o,
+          le-leb d (daysIn (c * 100 + y) m) h,
+        )
 
     pub early-day : d ≤ 28 → true ≡ isDay
     early-day h = let k = days-range (c * 100 + y) m in a-day (omega arith)
@@ -124,36 +122,20 @@ module _ (c y m d : ℕ) where
         by-case true q = let h = leb-true d k q in a-day (omega arith)
         by-case false q = let h = leb-false d k q in day-over (omega arith)
 
--- is_time_of_day: the time hhmmss of an hour, a minute and a second
+-- is_time_of_day
 module _ (h m s : ℕ) where
-  abbrev time : ℕ
-  time = (h * 100 + m) * 100 + s
-
-  abbrev isTimeOfDay : Bool
-  isTimeOfDay = leb h 99 && (leb m 99 && (leb s 99 && isTime time))
-
-  time-by-parts : m ≤ 99 → s ≤ 99 → isTime time ≡ (leb h 23 && (leb m 59 && leb s 59))
+  pub hour-over : 23 < h → false ≡ isTime h m s
   unfolding isTime
-  time-by-parts p q =
-      let a : time / 10000 ≡ h = omega arith in
-      let b : time / 100 % 100 ≡ m = omega arith in
-      let e : time % 100 ≡ s = omega arith in
-      simp (a, b, e)
+  hour-over o = rw (lt-leb h 23 o)
 
-  no-time : (leb h 23 && (leb m 59 && leb s 59)) ≡ false → false ≡ isTimeOfDay
-  no-time f = sym (unless h 99 _ (λ o. unless m 99 _ (λ p. unless s 99 _ (λ q. time-by-parts p q ∙ f))))
+  pub minute-over : 59 < m → false ≡ isTime h m s
+  unfolding isTime
+  minute-over o = simp (lt-leb m 59 o, and-false)
 
-  pub hour-over : 23 < h → false ≡ isTimeOfDay
-  hour-over o = no-time (rw (lt-leb h 23 o))
+  pub second-over : 59 < s → false ≡ isTime h m s
+  unfolding isTime
+  second-over o = simp (lt-leb s 59 o, and-false)
 
-  pub minute-over : 59 < m → false ≡ isTimeOfDay
-  minute-over o = no-time (simp (lt-leb m 59 o, and-false))
-
-  pub second-of : h ≤ 23 → m ≤ 59 → leb s 59 ≡ isTimeOfDay
-  second-of o p = by-case (leb s 59) refl
-    where
-      by-case : (b : Bool) → leb s 59 ≡ b → b ≡ isTimeOfDay
-      by-case false q = no-time (simp (q, and-false))
-      by-case true q =
-          let r = leb-true s 59 q in
-          rw (le-leb h 99 (omega arith), le-leb m 99 (omega arith), le-leb s 99 (omega arith), time-by-parts (omega arith) (omega arith), le-leb h 23 o, le-leb m 59 p, q)
+  pub second-of : h ≤ 23 → m ≤ 59 → leb s 59 ≡ isTime h m s
+  unfolding isTime
+  second-of o p = rw (le-leb h 23 o, le-leb m 59 p)

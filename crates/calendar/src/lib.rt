@@ -1,4 +1,5 @@
-// Dates and times of day by numbers of two digits: Gregorian, years 1900 to 9999, no leap seconds (document 01, "What the caller lends"; 001 Table 6).
+// Dates and times of day by numbers of two digits: Gregorian, years 1900 to 9999, no leap seconds (document 01, "What
+// the caller lends"; 001 Table 6).
 ghost use mathlib.Core.Path.{_≡_};
 ghost use mathlib.Core.Bool.{_&&_};
 ghost use Prim.Native.Nat.{_+_, _*_, _≤_};
@@ -32,9 +33,10 @@ fn days_in(century: u64, year: u64, month: u64) -> u64
     }
 }
 
-// Whether a century, the year in it, a month and a day are numbers of two digits that say a date. What each month has is asked only of the days after the 28th.
+// Whether a century, the year in it (00 to 99), a month and a day are a date. How many days the month has is asked
+// only of the days after the 28th.
 pub fn is_day(century: u64, year: u64, month: u64, day: u64) -> bool
-    ensures { λ r. ⌜ r ≡ (leb century 99 && (leb year 99 && (leb month 99 && (leb day 99 && isDate (((century * 100 + year) * 100 + month) * 100 + day))))) ⌝ }
+    ensures { λ r. ⌜ r ≡ (leb year 99 && isDate (century * 100 + year) month day) ⌝ }
 {
     if century < 19 {
         return false;
@@ -60,9 +62,9 @@ pub fn is_day(century: u64, year: u64, month: u64, day: u64) -> bool
     day <= days_in(century, year, month)
 }
 
-// Whether an hour, a minute and a second are numbers of two digits that say a time of day.
+// Whether an hour, a minute and a second are a time of day.
 pub fn is_time_of_day(hour: u64, minute: u64, second: u64) -> bool
-    ensures { λ r. ⌜ r ≡ (leb hour 99 && (leb minute 99 && (leb second 99 && isTime ((hour * 100 + minute) * 100 + second)))) ⌝ }
+    ensures { λ r. ⌜ r ≡ isTime hour minute second ⌝ }
 {
     if 23 < hour {
         return false;

@@ -15,7 +15,7 @@ use Rattle.text.specs.Classes.{areAll}
 use Rattle.text.specs.declared.Class.the-variants.{Text}
 use Rattle.decimals.specs.Decimals.{isNumber, isUnpadded}
 use Rattle.calendar.specs.Calendar.{isDate, isTime, daysIn}
-use Rattle.timestamp.specs.Timestamps.{isTimestamp, timestampOf, momentOf}
+use Rattle.timestamp.specs.Timestamps.{isDateAndTime, isTimestamp}
 use Rattle.forms.specs.Forms.{inForm}
 use Rattle.forms.specs.declared.Form.the-variants.{Number, Digits, Hex, Name}
 use Rattle.forms.proofs.FormBounds.{most}
@@ -67,7 +67,7 @@ hasDefault Optional a = inForm (form a) (orElse (valueOf (name a) defaultCard) [
 hasDefault Engine a = true
 
 all-default : T (allRows (λ (a : Attribute). hasDefault (presence a) a) table)
-unfolding table defaultCard valueOf nameOf areAll isNumber isUnpadded isTimestamp timestampOf momentOf isDate isTime daysIn
+unfolding table defaultCard valueOf nameOf areAll isNumber isUnpadded isTimestamp isDateAndTime isDate isTime daysIn
 all-default = tt
 
 -- the names that are not the engine's; computed for the table

@@ -1,6 +1,6 @@
 -- The entries that patterns tell, and the places of all entries, each law with what the code knows where it answers as premises.
 use mathlib.Core.Path.{_≡_, refl, sym, _∙_}
-use mathlib.Core.Bool.{Bool, true, false, not, cond, _&&_, and-false}
+use mathlib.Core.Bool.{Bool, true, false, not, cond, _&&_, and-false, and-true}
 use mathlib.Core.List.{List, [], _∷_, _++_}
 use Prim.Native.Nat.{ℕ, _+_, _≤_, _<_}
 use native.Mathlib.Omega.{arith}
@@ -76,10 +76,6 @@ module _ (p s : List ℕ) (at : ℕ) where
 pub ruleset fittingCases = (no-room, no-fit, a-fit)
 
 -- what rows tell, and what is asked of their values besides
-and-true : (a : Bool) → (a && true) ≡ a
-and-true true = refl
-and-true false = refl
-
 module _ (rs : List Row) (s : List ℕ) (at : ℕ) where
   pub rows-told : tests rs s at ≡ true → afterFitting (pattern rs) s at ≡ afterRows rs s at
   unfolding afterFitting

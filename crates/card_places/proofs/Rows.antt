@@ -8,7 +8,7 @@ use lib.Dec.{T}
 use lib.ListN.{length, getD, take, drop, length-drop, length-append}
 use lib.Seq.{drop-drop, length-take-le, getD-drop}
 use borrow.Author.Tests.{eqb-true}
-use Rattle.octets.proofs.Flags.{nope, and-first, and-second, and-both}
+use Rattle.octets.proofs.Flags.{nope, and-first, and-second, and-both, both-ways}
 use Rattle.forms.specs.Forms.{inForm}
 use Rattle.forms.specs.declared.Form.{Form}
 use Rattle.cards.specs.Entries.{nameBytes}
@@ -17,7 +17,7 @@ use Rattle.patterns.specs.Patterns.{fitsByte, fits}
 use Rattle.patterns.proofs.PatternLaws.{fits-itself, fits-front, fits-append, fits-length}
 use Rattle.card_places.specs.Places.{startsWith, after, isLong}
 use Rattle.card_places.proofs.EntryPlaces.{Framed, behind, framed-entry, entry-long, entry-framed}
-use Rattle.card_places.proofs.Shapes.{both-ways, Told, isPlain, plain-some, name-fits, fits-name}
+use Rattle.card_places.proofs.Shapes.{Told, isPlain, plain-some, name-fits, fits-name}
 use Rattle.card_places.proofs.Stands.{stands, stands-not, past-stays}
 
 -- an attribute with the shape of its values

@@ -1,6 +1,6 @@
 -- The shapes of values and names: a pattern that a value in form fits, and what is asked of the value besides.
 use mathlib.Core.Path.{_≡_, refl, sym, ap, _∙_}
-use mathlib.Core.Bool.{Bool, true, false, cond, not, _&&_, _||_}
+use mathlib.Core.Bool.{Bool, true, false, cond, not, and-true, _&&_, _||_}
 use mathlib.Core.List.{List, [], _∷_, _++_}
 use Prim.Native.Nat.{ℕ, _+_, _-_, _*_, _/_, _%_, _≤_, _<_}
 use mathlib.Core.Logic.{⊎-elim}
@@ -11,27 +11,20 @@ use lib.Seq.{drop-cons, drop-drop, length-take-le}
 use borrow.Author.Tests.{eq-eqb, le-leb, lt-leb, leb-true, eqb-true, not-true}
 use Rattle.octets.specs.Texts.{text}
 use Rattle.octets.specs.Strings.{allOf}
-use Rattle.octets.proofs.Flags.{nope, and-first, and-second, and-both, or-cases, yes}
+use Rattle.octets.proofs.Flags.{and-first, and-second, and-both, or-cases, both-ways, yes}
 use Rattle.text.specs.Classes.{within, isOf, areAll}
 use Rattle.text.specs.declared.Class.the-variants.{Capital, Digit, Hexadecimal}
 use Rattle.decimals.specs.Decimals.{decimal, isUnpadded, isNumber}
-use Rattle.calendar.specs.Calendar.{isDate, isTime}
-use Rattle.timestamp.specs.Timestamps.{momentOf, timestampOf, isMoment, isTimestamp}
-use Rattle.timestamp.specs.declared.Moment.{Moment}
-use Rattle.timestamp.specs.declared.Moment.the-variants.{At, Bad}
-use Rattle.timestamp.proofs.Plain.{timestamp-length}
+use Rattle.timestamp.specs.Timestamps.{isTimestamp}
+use Rattle.timestamp.proofs.Plain.{timestamp-length, timestamp-date, timestamp-time, timestamp-t, timestamp-z}
 use Rattle.forms.specs.Forms.{isAlgorithm, inForm}
+use Rattle.forms.proofs.FormBounds.{algorithm-is}
 use Rattle.forms.specs.declared.Form.{Form}
 use Rattle.forms.specs.declared.Form.the-variants.{Timestamp, Algorithm, Number, Digits, Hex}
 use Rattle.cards.specs.Entries.{nameOf, nameBytes}
 use Rattle.cards.proofs.EntryLaws.{name-length}
 use Rattle.patterns.specs.Patterns.{fitsByte, fits}
 use Rattle.patterns.proofs.PatternLaws.{fits-smaller, fits-digit, fits-hexadecimal, fits-itself, fits-class, fits-front, fits-append, fits-length}
-
-pub both-ways : (a b : Bool) → (a ≡ true → b ≡ true) → (b ≡ true → a ≡ true) → a ≡ b
-both-ways true b f g = sym (f refl)
-both-ways false true f g = g refl
-both-ways false false f g = refl
 
 -- a value that is as long as the shape is in form where it fits the shape and passes the test
 abbrev pub Told : Form → List ℕ → (List ℕ → Bool) → Type 0
@@ -41,18 +34,14 @@ Told f shape test = (v : List ℕ) → length v ≡ length shape → inForm f v 
 abbrev pub noMore : List ℕ → Bool
 noMore v = true
 
-and-true : (a : Bool) → a ≡ (a && true)
-and-true true = refl
-and-true false = refl
-
 -- digits, and hexadecimal digits
 pub digits-told : (n : ℕ) (v : List ℕ) → length v ≡ n → inForm (Digits n) v ≡ (fits (replicate n 57) v && true)
 unfolding areAll
-digits-told n v l = rw (eq-eqb (length v) n l, fits-class 57 (isOf Digit) fits-digit n v l) (and-true (allOf (isOf Digit) v))
+digits-told n v l = rw (eq-eqb (length v) n l, fits-class 57 (isOf Digit) fits-digit n v l) (sym (and-true (allOf (isOf Digit) v)))
 
 pub hex-told : (n : ℕ) (v : List ℕ) → length v ≡ n → inForm (Hex n) v ≡ (fits (replicate n 70) v && true)
 unfolding areAll
-hex-told n v l = rw (eq-eqb (length v) n l, fits-class 70 (isOf Hexadecimal) fits-hexadecimal n v l) (and-true (allOf (isOf Hexadecimal) v))
+hex-told n v l = rw (eq-eqb (length v) n l, fits-class 70 (isOf Hexadecimal) fits-hexadecimal n v l) (sym (and-true (allOf (isOf Hexadecimal) v)))
 
 -- a number of one digit: the highest one is its shape
 module _ (low high : ℕ) (m : high ≤ 9) where
@@ -78,7 +67,7 @@ module _ (low high : ℕ) (m : high ≤ 9) where
         rw (le-leb 48 b l, le-leb b 57 (omega arith), le-leb low (decimal (b ∷ [])) (omega arith), le-leb (decimal (b ∷ [])) high (omega arith))
 
     digit-shape : fits ((48 + high) ∷ []) (b ∷ []) ≡ within b 48 (48 + high)
-    digit-shape = sym (and-true (fitsByte (48 + high) b)) ∙ fits-smaller (48 + high) (omega arith) (omega arith) b
+    digit-shape = and-true (fitsByte (48 + high) b) ∙ fits-smaller (48 + high) (omega arith) (omega arith) b
 
   pub number-told : Told (Number 1 low high) ((48 + high) ∷ []) (λ (v : List ℕ). leb (48 + low) (getD v 0 0))
   number-told [] l = absurd (omega arith)
@@ -101,29 +90,20 @@ from-zero-told high m (b ∷ []) l =
 from-zero-told high m (b ∷ c ∷ v) l = absurd (omega arith)
 
 -- 02 or 04
-algorithm-fits : (v : List ℕ) → isAlgorithm v ≡ true → length v ≡ 2 → fits (text "04") v ≡ true
-unfolding isAlgorithm fitsByte
-algorithm-fits [] e l = absurd (omega arith)
-algorithm-fits (a ∷ []) e l = absurd (omega arith)
-algorithm-fits (a ∷ b ∷ []) e l =
-    let i : a ≡ 48 = eqb-true a 48 (and-first (eqb a 48) (eqb b 50 || eqb b 52) e) in
-    ⊎-elim (λ (o : eqb b 50 ≡ true). rw (i, eqb-true b 50 o)) (λ (o : eqb b 52 ≡ true). rw (i, eqb-true b 52 o)) (or-cases (eqb b 50) (eqb b 52) (and-second (eqb a 48) (eqb b 50 || eqb b 52) e))
-algorithm-fits (a ∷ b ∷ c ∷ v) e l = absurd (omega arith)
+algorithm-fits : (v : List ℕ) → isAlgorithm v ≡ true → fits (text "04") v ≡ true
+unfolding fitsByte
+algorithm-fits v e = ⊎-elim (λ (p : v ≡ text "02"). rw p) (λ (p : v ≡ text "04"). rw p) (algorithm-is v e)
 
 -- what a form says besides, where the shape is a part of it
 besides : (f : Form) (shape v : List ℕ) → (inForm f v ≡ true → fits shape v ≡ true) → inForm f v ≡ (fits shape v && inForm f v)
 besides f shape v h = both-ways (inForm f v) (fits shape v && inForm f v) (λ e. and-both (fits shape v) (inForm f v) (h e) e) (and-second (fits shape v) (inForm f v))
 
 pub algorithm-told : Told Algorithm (text "04") (inForm Algorithm)
-algorithm-told v l = besides Algorithm (text "04") v (λ e. algorithm-fits v e l)
+algorithm-told v l = besides Algorithm (text "04") v (λ e. algorithm-fits v e)
 
 -- a timestamp
 abbrev pub stampShape : List ℕ
 stampShape = replicate 8 57 ++ (84 ∷ (replicate 6 57 ++ (90 ∷ [])))
-
-moment-if : (t : Bool) (m : Moment) → isMoment (cond t m Bad) ≡ true → (t ≡ true) × (isMoment m ≡ true)
-moment-if true m e = (refl, e)
-moment-if false m e = nope (cc)
 
 digits-fit : (n : ℕ) (s : List ℕ) → n ≤ length s → areAll Digit (take n s) ≡ true → fits (replicate n 57) s ≡ true
 unfolding areAll
@@ -131,34 +111,14 @@ digits-fit n s l e =
     let k : length {A = ℕ} (replicate n 57) ≡ n = length-replicate n 57 in
     sym (fits-front (replicate n 57) s) ∙ rw k (fits-class 57 (isOf Digit) fits-digit n (take n s) (length-take-le n s l) ∙ e)
 
-module _ (v : List ℕ) (e : isTimestamp v ≡ true) where
-  abbrev marks : Bool
-  marks = eqb (getD v 8 0) 84 && eqb (getD v 15 0) 90
-
-  abbrev moment : Bool
-  moment = isDate (decimal (take 8 v)) && isTime (decimal (take 6 (drop 9 v)))
-
-  stamp-parts : ((eqb (length v) 16 && marks) ≡ true) × (isMoment (momentOf (take 8 v) (take 6 (drop 9 v))) ≡ true)
-  unfolding isTimestamp timestampOf
-  stamp-parts = moment-if (eqb (length v) 16 && marks) (momentOf (take 8 v) (take 6 (drop 9 v))) e
-
-  stamp-digits : (areAll Digit (take 8 v) && (areAll Digit (take 6 (drop 9 v)) && moment)) ≡ true
-  unfolding momentOf
-  stamp-digits = moment-if (areAll Digit (take 8 v) && (areAll Digit (take 6 (drop 9 v)) && moment)) (At (decimal (take 8 v) * 1000000 + decimal (take 6 (drop 9 v)))) (stamp-parts .1) .0
-
-  stamp-fits : fits stampShape v ≡ true
-  unfolding fitsByte
-  stamp-fits =
-      let n = timestamp-length v e in
-      let m : marks ≡ true = and-second (eqb (length v) 16) marks (stamp-parts .0) in
-      let b8 : getD v 8 0 ≡ 84 = eqb-true (getD v 8 0) 84 (and-first (eqb (getD v 8 0) 84) (eqb (getD v 15 0) 90) m) in
-      let b15 : getD v 15 0 ≡ 90 = eqb-true (getD v 15 0) 90 (and-second (eqb (getD v 8 0) 84) (eqb (getD v 15 0) 90) m) in
-      let d = and-second (areAll Digit (take 8 v)) (areAll Digit (take 6 (drop 9 v)) && moment) stamp-digits in
-      let date = digits-fit 8 v (omega arith) (and-first (areAll Digit (take 8 v)) (areAll Digit (take 6 (drop 9 v)) && moment) stamp-digits) in
-      let time = digits-fit 6 (drop 9 v) (omega (arith, length-drop 9 v)) (and-first (areAll Digit (take 6 (drop 9 v))) moment d) in
-      let e8 : drop 8 v ≡ 84 ∷ drop 9 v = drop-cons v 8 0 (omega arith) ∙ ap (λ (x : ℕ). x ∷ drop 9 v) b8 in
-      let e15 : drop 6 (drop 9 v) ≡ 90 ∷ drop 16 v = drop-drop 6 9 v ∙ drop-cons v 15 0 (omega arith) ∙ ap (λ (x : ℕ). x ∷ drop 16 v) b15 in
-      fits-append (replicate 8 57) (84 ∷ (replicate 6 57 ++ (90 ∷ []))) v ∙ rw (date, e8, fits-append (replicate 6 57) (90 ∷ []) (drop 9 v), time, e15)
+stamp-fits : (v : List ℕ) → isTimestamp v ≡ true → fits stampShape v ≡ true
+unfolding fitsByte
+stamp-fits v e =
+    let n = timestamp-length v e in
+    let date = digits-fit 8 v (omega arith) (timestamp-date v e) in
+    let time = digits-fit 6 (drop 9 v) (omega (arith, length-drop 9 v)) (timestamp-time v e) in
+    fits-append (replicate 8 57) (84 ∷ (replicate 6 57 ++ (90 ∷ []))) v
+    ∙ rw (date, timestamp-t v e, fits-append (replicate 6 57) (90 ∷ []) (drop 9 v), time, timestamp-z v e)
 
 pub stamp-told : Told Timestamp stampShape (inForm Timestamp)
 stamp-told v l = besides Timestamp stampShape v (stamp-fits v)

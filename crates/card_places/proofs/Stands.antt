@@ -1,6 +1,6 @@
 -- The cases of an entry at a place and of a whole card, each with what the code knows where it answers as premises.
 use mathlib.Core.Path.{_≡_, refl, sym, _∙_}
-use mathlib.Core.Bool.{Bool, true, false, not, _&&_}
+use mathlib.Core.Bool.{Bool, true, false, not, and-assoc, _&&_}
 use mathlib.Core.List.{List, [], _∷_}
 use Prim.Native.Nat.{ℕ, _+_, _-_, _≤_, _<_}
 use native.Mathlib.Omega.{arith}
@@ -99,11 +99,7 @@ module _ (a : Attribute) (rs : List Attribute) (s : List ℕ) (at : ℕ) where
   first-entry =
       let t = drop at s in
       let d : drop (entryLength t + 1) t ≡ drop (at + (entryLength t + 1)) s = rw drop-drop refl in
-      rw d (assoc (ltb (entryLength t) (length t)) (isEntryOf a (take (entryLength t) t)) (isStoredFrom rs (drop (at + (entryLength t + 1)) s)))
-    where
-      assoc : (x y z : Bool) → (x && (y && z)) ≡ ((x && y) && z)
-      assoc true y z = refl
-      assoc false y z = refl
+      rw d (sym (and-assoc (ltb (entryLength t) (length t)) (isEntryOf a (take (entryLength t) t)) (isStoredFrom rs (drop (at + (entryLength t + 1)) s))))
 
   pub first-stands : startsWith (name a) (form a) (drop at s) ≡ true → isStoredFrom (a ∷ rs) (drop at s) ≡ isStoredFrom rs (drop (after (name a) (form a) s at) s)
   first-stands e = first-entry ∙ rw (e, ← stands (name a) (form a) s at e (entryLength (drop at s)) refl) refl

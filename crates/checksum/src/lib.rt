@@ -4,7 +4,7 @@ ghost use mathlib.Core.Path.{_≡_};
 ghost use Prim.Native.Nat.{_+_, _-_, _≤_};
 ghost use lib.ListN.{length, take, drop};
 ghost use Rattle.octets.specs.Wrote.{Wrote};
-ghost use Rattle.checksum.specs.Checksum.{sumOf, sumDigits, isSum, endsInSum};
+ghost use Rattle.checksum.specs.Checksum.{sumOf, sumDigits, endsInSum};
 
 // Of which kind the CRC is: of a message, or of a record.
 pub enum Kind {
@@ -21,31 +21,27 @@ fn sum_of(kind: Kind, s: &[u8]) -> u16
     }
 }
 
-fn is_sum(h: Hex4, n: u16) -> bool
-    ensures { λ r. ⌜ r ≡ isSum h n ⌝ }
+// Whether the bytes end in the four digits of what stands before them.
+pub fn ends_in_sum(kind: Kind, bytes: &[u8]) -> bool
+    ensures { λ r. ⌜ r ≡ endsInSum kind (now (bytes .entry)) ⌝ }
 {
-    match h {
-        Hex4::Number(v) => v == n,
-        Hex4::Bad => false,
-    }
-}
-
-// Whether s ends in the four digits of what stands before them.
-pub fn ends_in_sum(kind: Kind, s: &[u8]) -> bool
-    ensures { λ r. ⌜ r ≡ endsInSum kind (now (s .entry)) ⌝ }
-{
-    if s.len() < 4 {
+    if bytes.len() < 4 {
         return false;
     }
-    let n = s.len() - 4;
-    let c = sum_of(kind, &s[..n]);
-    is_sum(hexadecimal::read_hex4(s, n), c)
+    let n = bytes.len() - 4;
+    let c = sum_of(kind, &bytes[..n]);
+    let read = hexadecimal::read_hex4(bytes, n);
+    match read {
+        Hex4::Number(v) => v == c,
+        Hex4::Bad => false,
+    }
 }
 
 // Writes the four digits of the bytes from a place up to `to` behind them, and answers the place after the digits.
 pub fn put_sum(kind: Kind, dst: &mut [u8], from: usize, to: usize) -> usize
     requires { ⌜ (from ≤ to) × (to + 4 ≤ length (now dst)) ⌝ }
-    ensures { λ r. ⌜ Wrote (now (dst .entry)) to (sumDigits kind (take (to - from) (drop from (now (dst .entry))))) (now (dst .exit)) r ⌝ }
+    ensures { λ r. ⌜ Wrote (now (dst .entry)) to (sumDigits kind (take (to - from) (drop from (now (dst .entry)))))
+        (now (dst .exit)) r ⌝ }
     ensures short { λ r. ⌜ r ≡ to + 4 ⌝ }
 {
     let c = sum_of(kind, &dst[from..to]);

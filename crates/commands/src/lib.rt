@@ -1,4 +1,5 @@
-// The ten commands of document 01 by their headers, fixed byte strings that are compared with a request's (001 clauses 6.2.7 and 6.3).
+// The ten commands of document 01 by their headers, fixed byte strings that are compared with a request's (001
+// clauses 6.2.7 and 6.3).
 ghost use mathlib.Core.Path.{_≡_};
 ghost use mathlib.Core.List.{_∷_};
 ghost use Prim.Native.Nat.{_+_, _<_};
@@ -44,14 +45,14 @@ fn header_at(k: usize) -> Header
 }
 
 // The command of a request's header (question 7).
-pub fn command_of(h: &[u8]) -> Command
-    ensures { λ r. ⌜ r ≡ commandOf (now (h .entry)) ⌝ }
+pub fn command_of(header: &[u8]) -> Command
+    ensures { λ r. ⌜ r ≡ commandOf (now (header .entry)) ⌝ }
 {
     let mut k = 0;
     while k < 10 {
         let e = header_at(k);
         let name = e.1;
-        if octets::same_bytes(h, &name) {
+        if octets::same_bytes(header, &name) {
             return e.0;
         }
         k += 1;

@@ -17,8 +17,8 @@ fn take_line(s: Session) -> Session {
     let p = s.pending;
     let bytes = p.bytes;
     let n = p.length;
-    let stepped = console_steps::step(s.console, s.number, slot_rows::front(&bytes, n), &mut out);
-    io::write_all(STDOUT_FILENO, slot_rows::front(&out, stepped.length));
+    let stepped = console_steps::step(s.console, s.number, octets::front(&bytes, n), &mut out);
+    io::write_all(STDOUT_FILENO, octets::front(&out, stepped.length));
     let console = stepped.console;
     Session {
         console,

@@ -29,7 +29,7 @@ pub fn added(p: Pending, s: &[u8]) -> Pending
     if 4097 < p.length {
         return p;
     }
-    let fits = slot_rows::front(s, 4097 - p.length);
+    let fits = octets::front(s, 4097 - p.length);
     let length = octets::put(&mut bytes, p.length, fits);
     Pending { bytes, length }
 }

@@ -37,8 +37,8 @@ pub fn step(c: Console, number: u64, l: &[u8], out: &mut [u8]) -> Stepped
     let line = console_state::checked(c.tables, console_lines::line_of(l));
     let r = console_words::rest(l);
     match line {
-        Line::Send => console_requests::send(c, number, slot_rows::front(r, 2043), out),
-        Line::Raw => console_requests::send_octets(c, number, slot_rows::front(r, 4092), out),
+        Line::Send => console_requests::send(c, number, octets::front(r, 2043), out),
+        Line::Raw => console_requests::send_octets(c, number, octets::front(r, 4092), out),
         _ => {
             let length = say(c, number, line, out);
             let console = console_state::set_by(c, line, r);

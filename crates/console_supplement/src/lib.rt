@@ -39,7 +39,7 @@ fn identity_space(v: &[u8]) -> [u8; 128]
     ensures { λ r. ⌜ r ≡ padded 128 (now (v .entry)) ⌝ }
 {
     let mut space = [0u8; 128];
-    octets::put(&mut space, 0, slot_rows::front(v, 128));
+    octets::put(&mut space, 0, octets::front(v, 128));
     space
 }
 
@@ -47,7 +47,7 @@ fn request_space(v: &[u8]) -> [u8; 700]
     ensures { λ r. ⌜ r ≡ padded 700 (now (v .entry)) ⌝ }
 {
     let mut space = [0u8; 700];
-    octets::put(&mut space, 0, slot_rows::front(v, 700));
+    octets::put(&mut space, 0, octets::front(v, 700));
     space
 }
 

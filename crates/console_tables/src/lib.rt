@@ -12,7 +12,7 @@ fn in_forty(s: &[u8]) -> [u8; 40]
     ensures { λ r. ⌜ r ≡ padded 40 (octetsOf (now (s .entry))) ⌝ }
 {
     let mut space = [0u8; 40];
-    hex_octets::put_octets(&mut space, slot_rows::front(s, 80));
+    hex_octets::put_octets(&mut space, octets::front(s, 80));
     space
 }
 
@@ -20,7 +20,7 @@ fn in_sixteen(s: &[u8]) -> [u8; 16]
     ensures { λ r. ⌜ r ≡ padded 16 (octetsOf (now (s .entry))) ⌝ }
 {
     let mut space = [0u8; 16];
-    hex_octets::put_octets(&mut space, slot_rows::front(s, 32));
+    hex_octets::put_octets(&mut space, octets::front(s, 32));
     space
 }
 
@@ -42,7 +42,7 @@ pub fn register_of(d: &[u8]) -> RegisterRow
     ensures { λ r. ⌜ r ≡ registerOf (now (d .entry)) ⌝ }
 {
     let mut card = [0u8; 256];
-    hex_octets::put_octets(&mut card, slot_rows::front(d, 512));
+    hex_octets::put_octets(&mut card, octets::front(d, 512));
     RegisterRow { card }
 }
 

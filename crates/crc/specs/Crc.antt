@@ -1,5 +1,5 @@
--- The 16-bit cyclic redundancy check of 001 clause 5.2 and 003 clause 5.5: polynomial x^16 + x^15 + x^2 + 1, least significant bit first
--- (0xA001 is the polynomial with its bits reversed).
+-- The 16-bit cyclic redundancy check of 001 clause 5.2 and 003 clause 5.5: polynomial x^16 + x^15 + x^2 + 1, least
+-- significant bit first (0xA001 is the polynomial with its bits reversed).
 use Prim.Native.Nat.{ℕ, _*_, _/_, _%_}
 use mathlib.Core.List.{List, [], _∷_}
 use lib.Bits.{bitXor}

@@ -1,4 +1,5 @@
-// CRC-16 with the polynomial x^16 + x^15 + x^2 + 1, least significant bit first, by two tables of 256 entries (001 clause 5.2, 003 clause 5.5).
+// CRC-16 with the polynomial x^16 + x^15 + x^2 + 1, least significant bit first, by two tables of 256 entries (001
+// clause 5.2, 003 clause 5.5).
 mod second;
 mod table;
 
@@ -17,8 +18,9 @@ fn place(c: u16, b: u8) -> usize
     ((c ^ (b as u16)) % 256) as usize
 }
 
-// The check value of s, from a start value, by two bytes at a step, and by one where the length is odd. The first byte of two meets the low half
-// of the check value, and the second the high half. The tables are taken once, since each `TABLE[n]` would make one anew.
+// The check value of s, from a start value, by two bytes at a step, and by one where the length is odd. The first
+// byte of two meets the low half of the check value, and the second the high half. The tables are taken once, since
+// each `TABLE[n]` would make one anew.
 fn crc_from(start: u16, s: &[u8]) -> u16
     ensures { λ r. ⌜ r ≡ crcOf start (now (s .entry)) ⌝ }
 {
@@ -40,15 +42,15 @@ fn crc_from(start: u16, s: &[u8]) -> u16
 }
 
 // CRC-16/ARC, of requests and responses.
-pub fn crc_arc(s: &[u8]) -> u16
-    ensures { λ r. ⌜ r ≡ arcOf (now (s .entry)) ⌝ }
+pub fn crc_arc(bytes: &[u8]) -> u16
+    ensures { λ r. ⌜ r ≡ arcOf (now (bytes .entry)) ⌝ }
 {
-    crc_from(0, s)
+    crc_from(0, bytes)
 }
 
 // CRC-16/MODBUS, of records.
-pub fn crc_modbus(s: &[u8]) -> u16
-    ensures { λ r. ⌜ r ≡ modbusOf (now (s .entry)) ⌝ }
+pub fn crc_modbus(bytes: &[u8]) -> u16
+    ensures { λ r. ⌜ r ≡ modbusOf (now (bytes .entry)) ⌝ }
 {
-    crc_from(0xFFFF, s)
+    crc_from(0xFFFF, bytes)
 }

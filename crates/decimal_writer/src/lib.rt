@@ -13,26 +13,26 @@ fn put_digits(dst: &mut [u8], at: usize, v: u64, k: usize) -> usize
         return at;
     }
     if v < 10 {
-        return octets::put_byte(dst, at, 48 + (v as u8));
+        return octets::put_byte(dst, at, b'0' + (v as u8));
     }
     let o = put_digits(dst, at, v / 10, k - 1);
-    octets::put_byte(dst, o, 48 + ((v % 10) as u8))
+    octets::put_byte(dst, o, b'0' + ((v % 10) as u8))
 }
 
-// Writes v in decimal without leading zero, and answers the place after it.
-pub fn put_decimal(dst: &mut [u8], at: usize, v: u32) -> usize
+// Writes a number in decimal without leading zero, and answers the place after it.
+pub fn put_decimal(dst: &mut [u8], at: usize, number: u32) -> usize
     requires { ⌜ at + 10 ≤ length (now dst) ⌝ }
-    ensures { λ r. ⌜ Wrote (now (dst .entry)) at (decimalBytes v) (now (dst .exit)) r ⌝ }
+    ensures { λ r. ⌜ Wrote (now (dst .entry)) at (decimalBytes number) (now (dst .exit)) r ⌝ }
     ensures short { λ r. ⌜ r ≤ at + 10 ⌝ }
 {
-    put_digits(dst, at, v as u64, 10)
+    put_digits(dst, at, number as u64, 10)
 }
 
-// Writes any v in decimal without leading zero, and answers the place after it.
-pub fn put_long(dst: &mut [u8], at: usize, v: u64) -> usize
+// Writes any number in decimal without leading zero, and answers the place after it.
+pub fn put_long(dst: &mut [u8], at: usize, number: u64) -> usize
     requires { ⌜ at + 20 ≤ length (now dst) ⌝ }
-    ensures { λ r. ⌜ Wrote (now (dst .entry)) at (longBytes v) (now (dst .exit)) r ⌝ }
+    ensures { λ r. ⌜ Wrote (now (dst .entry)) at (longBytes number) (now (dst .exit)) r ⌝ }
     ensures short { λ r. ⌜ r ≤ at + 20 ⌝ }
 {
-    put_digits(dst, at, v, 20)
+    put_digits(dst, at, number, 20)
 }

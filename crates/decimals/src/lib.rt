@@ -8,19 +8,19 @@ ghost use Rattle.decimals.specs.Decimals.{decimal, isUnpadded, isNumber}
 fn digit_value(b: u8) -> u64
     ensures { λ r. ⌜ r ≡ b - 48 ⌝ }
 {
-    if b < 48 { 0 } else { (b - 48) as u64 }
+    if b < b'0' { 0 } else { (b - b'0') as u64 }
 }
 
 // The number that up to ten decimal digits say.
-pub fn decimal(s: &[u8]) -> u64
-    requires { ⌜ length (now s) ≤ 10 ⌝ }
-    ensures { λ r. ⌜ r ≡ decimal (now (s .entry)) ⌝ }
+pub fn decimal(digits: &[u8]) -> u64
+    requires { ⌜ length (now digits) ≤ 10 ⌝ }
+    ensures { λ r. ⌜ r ≡ decimal (now (digits .entry)) ⌝ }
     ensures small { λ r. ⌜ r < 2 ^ 38 ⌝ }
 {
     let mut v: u64 = 0;
     let mut i = 0;
-    while i < s.len() {
-        v = v * 10 + digit_value(s[i]);
+    while i < digits.len() {
+        v = v * 10 + digit_value(digits[i]);
         i += 1;
     }
     v
@@ -33,27 +33,27 @@ fn is_unpadded(v: &[u8]) -> bool
     if v.len() == 1 {
         return true;
     }
-    v[0] != 48
+    v[0] != b'0'
 }
 
-// Whether v is a decimal number from low to high, of at most so many digits (up to ten) and without leading zero.
-pub fn is_number(digits: usize, low: u32, high: u32, v: &[u8]) -> bool
+// Whether a value is a decimal number from low to high, of at most so many digits (up to ten) and without leading zero.
+pub fn is_number(digits: usize, low: u32, high: u32, value: &[u8]) -> bool
     requires { ⌜ digits ≤ 10 ⌝ }
-    ensures { λ r. ⌜ r ≡ isNumber digits low high (now (v .entry)) ⌝ }
+    ensures { λ r. ⌜ r ≡ isNumber digits low high (now (value .entry)) ⌝ }
 {
-    if v.len() < 1 {
+    if value.len() < 1 {
         return false;
     }
-    if digits < v.len() {
+    if digits < value.len() {
         return false;
     }
-    if !text::are_all(Class::Digit, v) {
+    if !text::are_all(Class::Digit, value) {
         return false;
     }
-    if !is_unpadded(v) {
+    if !is_unpadded(value) {
         return false;
     }
-    let x = decimal(v);
+    let x = decimal(value);
     if x < (low as u64) {
         return false;
     }

@@ -13,43 +13,43 @@ fn put_content(dst: &mut [u8], at: usize, kind: u8, v: &[u8]) -> usize
 {
     let a = octets::put_byte(dst, at, kind);
     let b = octets::put(dst, a, v);
-    octets::put_byte(dst, b, 126)
+    octets::put_byte(dst, b, b'~')
 }
 
 // Writes a number, and answers the place after it.
-pub fn put_number(dst: &mut [u8], at: usize, v: u32) -> usize
+pub fn put_number(dst: &mut [u8], at: usize, value: u32) -> usize
     requires { ⌜ at + 12 ≤ length (now dst) ⌝ }
-    ensures { λ r. ⌜ Wrote (now (dst .entry)) at (fieldBytes (number v)) (now (dst .exit)) r ⌝ }
+    ensures { λ r. ⌜ Wrote (now (dst .entry)) at (fieldBytes (number value)) (now (dst .exit)) r ⌝ }
     ensures short { λ r. ⌜ r ≤ at + 12 ⌝ }
 {
-    let a = octets::put_byte(dst, at, 78);
-    let b = decimal_writer::put_decimal(dst, a, v);
-    octets::put_byte(dst, b, 126)
+    let a = octets::put_byte(dst, at, b'N');
+    let b = decimal_writer::put_decimal(dst, a, value);
+    octets::put_byte(dst, b, b'~')
 }
 
 // Writes a string, and answers the place after it.
-pub fn put_string(dst: &mut [u8], at: usize, v: &[u8]) -> usize
-    requires { ⌜ at + length (now v) + 2 ≤ length (now dst) ⌝ }
-    ensures { λ r. ⌜ Wrote (now (dst .entry)) at (fieldBytes (string (now (v .entry)))) (now (dst .exit)) r ⌝ }
-    ensures short { λ r. ⌜ r ≡ at + length (now (v .entry)) + 2 ⌝ }
+pub fn put_string(dst: &mut [u8], at: usize, value: &[u8]) -> usize
+    requires { ⌜ at + length (now value) + 2 ≤ length (now dst) ⌝ }
+    ensures { λ r. ⌜ Wrote (now (dst .entry)) at (fieldBytes (string (now (value .entry)))) (now (dst .exit)) r ⌝ }
+    ensures short { λ r. ⌜ r ≡ at + length (now (value .entry)) + 2 ⌝ }
 {
-    put_content(dst, at, 80, v)
+    put_content(dst, at, b'P', value)
 }
 
 // Writes a date of fourteen digits, and answers the place after it.
-pub fn put_date(dst: &mut [u8], at: usize, v: &[u8]) -> usize
-    requires { ⌜ at + length (now v) + 2 ≤ length (now dst) ⌝ }
-    ensures { λ r. ⌜ Wrote (now (dst .entry)) at (fieldBytes (date (now (v .entry)))) (now (dst .exit)) r ⌝ }
-    ensures short { λ r. ⌜ r ≡ at + length (now (v .entry)) + 2 ⌝ }
+pub fn put_date(dst: &mut [u8], at: usize, value: &[u8]) -> usize
+    requires { ⌜ at + length (now value) + 2 ≤ length (now dst) ⌝ }
+    ensures { λ r. ⌜ Wrote (now (dst .entry)) at (fieldBytes (date (now (value .entry)))) (now (dst .exit)) r ⌝ }
+    ensures short { λ r. ⌜ r ≡ at + length (now (value .entry)) + 2 ⌝ }
 {
-    put_content(dst, at, 68, v)
+    put_content(dst, at, b'D', value)
 }
 
 // Writes hex octets by their digits, and answers the place after them.
-pub fn put_octets(dst: &mut [u8], at: usize, v: &[u8]) -> usize
-    requires { ⌜ at + length (now v) + 2 ≤ length (now dst) ⌝ }
-    ensures { λ r. ⌜ Wrote (now (dst .entry)) at (fieldBytes (octets (now (v .entry)))) (now (dst .exit)) r ⌝ }
-    ensures short { λ r. ⌜ r ≡ at + length (now (v .entry)) + 2 ⌝ }
+pub fn put_octets(dst: &mut [u8], at: usize, value: &[u8]) -> usize
+    requires { ⌜ at + length (now value) + 2 ≤ length (now dst) ⌝ }
+    ensures { λ r. ⌜ Wrote (now (dst .entry)) at (fieldBytes (octets (now (value .entry)))) (now (dst .exit)) r ⌝ }
+    ensures short { λ r. ⌜ r ≡ at + length (now (value .entry)) + 2 ⌝ }
 {
-    put_content(dst, at, 72, v)
+    put_content(dst, at, b'H', value)
 }

@@ -18,9 +18,10 @@ use Rattle.text.specs.declared.Class.the-variants.{Text, Hexadecimal}
 use Rattle.decimals.specs.Decimals.{decimal, isNumber}
 use Rattle.decimals.proofs.NumberLaws.{number-short, number-most}
 use Rattle.timestamp.specs.Timestamps.{dateTimeOf, isMoment, isDateTime}
+use Rattle.timestamp.proofs.MomentLaws.{date-time-moment}
 use Rattle.timestamp.specs.declared.Moment as timestamp
 use Rattle.fields.specs.Values.{Value, number, bad, isOctets, provided, typed, valueOf, valuesOf, first, valueAt, after, nextAt}
-use Rattle.fields.specs.Bounds.{meant, Within, numberOf, placeAfter}
+use Rattle.fields.specs.Bounds.{fieldValue, Within, numberOf, placeAfter}
 use Rattle.fields.specs.declared.Field.{Field}
 use Rattle.fields.specs.declared.Field.the-variants as code
 use Rattle.fields.proofs.Field.{the-type}
@@ -37,8 +38,7 @@ module _ (v : List ℕ) where
 
 -- is_date_time
 pub date-judged : (v : List ℕ) (m : timestamp.Moment) → m ≡ dateTimeOf v → (r : Bool) → r ≡ isMoment m → r ≡ isDateTime v
-unfolding isDateTime
-date-judged v m p r q = rw (q, p)
+date-judged v m p r q = q ∙ ap isMoment p ∙ date-time-moment v
 
 -- number_of
 module _ (v : List ℕ) (t : Bool) (p : t ≡ isNumber 10 0 2147483647 v) where
@@ -57,9 +57,9 @@ module _ (v : List ℕ) (t : Bool) (p : t ≡ isNumber 10 0 2147483647 v) where
     pub number-small : (n : ℕ) → n ≡ decimal v → n < 2 ^ 32
     number-small n e = omega (arith, number-most 10 0 2147483647 v (sym p ∙ not-false t o))
 
-number-meant : (s v : List ℕ) (t : Bool) → meant s (cond t (code.Number (decimal v)) code.Bad) ≡ provided t (number (decimal v))
-number-meant s v true = refl
-number-meant s v false = refl
+number-value : (s v : List ℕ) (t : Bool) → fieldValue s (cond t (code.Number (decimal v)) code.Bad) ≡ provided t (number (decimal v))
+number-value s v true = refl
+number-value s v false = refl
 
 number-inside : (n : ℕ) (v : List ℕ) (t : Bool) → Within n (cond t (code.Number (decimal v)) code.Bad)
 number-inside n v true = tt
@@ -70,9 +70,9 @@ module _ (s : List ℕ) (k start end : ℕ) where
   abbrev v : List ℕ
   v = take (end - start) (drop start s)
 
-  pub of-number : k ≡ 78 → (r : Field) → r ≡ numberOf v → meant s r ≡ typed k v
+  pub of-number : k ≡ 78 → (r : Field) → r ≡ numberOf v → fieldValue s r ≡ typed k v
   unfolding typed numberOf
-  of-number e r p = rw (e, p) (number-meant s v (isNumber 10 0 2147483647 v))
+  of-number e r p = rw (e, p) (number-value s v (isNumber 10 0 2147483647 v))
 
   pub number-within : (n : ℕ) (r : Field) → r ≡ numberOf v → Within n r
   unfolding numberOf
@@ -80,33 +80,33 @@ module _ (s : List ℕ) (k start end : ℕ) where
 
   module _ (t : Bool) where
     module _ (e : k ≡ 80) (p : t ≡ areAll Text v) where
-      pub of-string : t ≡ true → meant s (code.Text start end) ≡ typed k v
+      pub of-string : t ≡ true → fieldValue s (code.Text start end) ≡ typed k v
       unfolding typed
       of-string q = rw (e, ← p, q)
 
-      pub no-string : t ≡ false → meant s code.Bad ≡ typed k v
+      pub no-string : t ≡ false → fieldValue s code.Bad ≡ typed k v
       unfolding typed
       no-string q = rw (e, ← p, q)
 
     module _ (e : k ≡ 68) (p : t ≡ isDateTime v) where
-      pub of-date : t ≡ true → meant s (code.Date start end) ≡ typed k v
+      pub of-date : t ≡ true → fieldValue s (code.Date start end) ≡ typed k v
       unfolding typed
       of-date q = rw (e, ← p, q)
 
-      pub no-date : t ≡ false → meant s code.Bad ≡ typed k v
+      pub no-date : t ≡ false → fieldValue s code.Bad ≡ typed k v
       unfolding typed
       no-date q = rw (e, ← p, q)
 
     module _ (e : k ≡ 72) (p : t ≡ isOctets v) where
-      pub of-octets : t ≡ true → meant s (code.Octets start end) ≡ typed k v
+      pub of-octets : t ≡ true → fieldValue s (code.Octets start end) ≡ typed k v
       unfolding typed
       of-octets q = rw (e, ← p, q)
 
-      pub no-octets : t ≡ false → meant s code.Bad ≡ typed k v
+      pub no-octets : t ≡ false → fieldValue s code.Bad ≡ typed k v
       unfolding typed
       no-octets q = rw (e, ← p, q)
 
-  pub no-type : (k ≡ 78 → ⊥) → (k ≡ 80 → ⊥) → (k ≡ 68 → ⊥) → (k ≡ 72 → ⊥) → meant s code.Bad ≡ typed k v
+  pub no-type : (k ≡ 78 → ⊥) → (k ≡ 80 → ⊥) → (k ≡ 68 → ⊥) → (k ≡ 72 → ⊥) → fieldValue s code.Bad ≡ typed k v
   unfolding typed
   no-type a b c d = rw (ne-eqb k 78 a, ne-eqb k 80 b, ne-eqb k 68 c, ne-eqb k 72 d)
 
@@ -119,12 +119,12 @@ after-field (code.Octets a b) at e k = refl
 after-field code.Bad at e k = absurd (⊎-elim (λ (p : 4 ≡ 0). omega arith) (λ l. ⊎-elim (λ (p : 4 ≡ 1). omega arith) (λ m. ⊎-elim (λ (p : 4 ≡ 2). omega arith) (λ (p : 4 ≡ 3). omega arith) m) l) k)
 
 -- the place after a field is that of its value
-after-meant : (s : List ℕ) (f : Field) (at e : ℕ) → placeAfter f at e ≡ after (meant s f) at e
-after-meant s (code.Number n) at e = refl
-after-meant s (code.Text a b) at e = refl
-after-meant s (code.Date a b) at e = refl
-after-meant s (code.Octets a b) at e = refl
-after-meant s code.Bad at e = refl
+after-value : (s : List ℕ) (f : Field) (at e : ℕ) → placeAfter f at e ≡ after (fieldValue s f) at e
+after-value s (code.Number n) at e = refl
+after-value s (code.Text a b) at e = refl
+after-value s (code.Date a b) at e = refl
+after-value s (code.Octets a b) at e = refl
+after-value s code.Bad at e = refl
 
 stays : (s : List ℕ) (at : ℕ) → bad ≡ valueAt s at → at ≡ nextAt s at
 unfolding nextAt
@@ -172,13 +172,13 @@ module _ (s : List ℕ) (at : ℕ) where
             let z : e - at ≡ suc (e - (at + 1)) = omega (arith, content-room) in
             rw (drop-cons s at 0 (omega arith), z, add-one)
 
-        module _ (r : Field) (q : meant s r ≡ typed (getD s at 0) (take (e - (at + 1)) (drop (at + 1) s))) where
-          pub field-here : meant s r ≡ valueAt s at
+        module _ (r : Field) (q : fieldValue s r ≡ typed (getD s at 0) (take (e - (at + 1)) (drop (at + 1) s))) where
+          pub field-here : fieldValue s r ≡ valueAt s at
           field-here = q ∙ ap valueOf (sym parted) ∙ sym value-here
 
           pub next-here : (n : ℕ) → n ≡ placeAfter r at e → n ≡ nextAt s at
           unfolding nextAt
-          next-here n k = k ∙ after-meant s r at e ∙ ap (λ (v : Value). after v at e) field-here ∙ ap (after (valueAt s at) at) p
+          next-here n k = k ∙ after-value s r at e ∙ ap (λ (v : Value). after v at e) field-here ∙ ap (after (valueAt s at) at) p
 
 -- the bounds of a field that was read
 module _ (n : ℕ) (f : Field) (w : Within n f) (a e : ℕ) where

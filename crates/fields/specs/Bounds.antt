@@ -8,12 +8,12 @@ use Rattle.fields.specs.Values.{Value, number, string, date, octets, bad
 use Rattle.fields.specs.declared.Field.{Field}
 use Rattle.fields.specs.declared.Field.the-variants.{Number, Text, Date, Octets, Bad}
 
-abbrev pub meant : List ℕ → Field → Value
-meant s (Number n) = number n
-meant s (Text a e) = string (take (e - a) (drop a s))
-meant s (Date a e) = date (take (e - a) (drop a s))
-meant s (Octets a e) = octets (take (e - a) (drop a s))
-meant s Bad = bad
+abbrev pub fieldValue : List ℕ → Field → Value
+fieldValue s (Number n) = number n
+fieldValue s (Text a e) = string (take (e - a) (drop a s))
+fieldValue s (Date a e) = date (take (e - a) (drop a s))
+fieldValue s (Octets a e) = octets (take (e - a) (drop a s))
+fieldValue s Bad = bad
 
 -- the bounds lie within n bytes
 abbrev pub Within : ℕ → Field → Type 0

@@ -1,10 +1,12 @@
 -- PTVD fields (001 clause 5.4, Table 6), as document 01 narrows them: what a payload says, and how it is written.
 use Prim.Native.Nat.{ℕ, _+_, _%_}
+use Prim.Native.Char.{code}
 use mathlib.Core.Bool.{Bool, true, false, cond, _&&_}
 use mathlib.Core.List.{List, [], _∷_, _++_, map}
 use lib.Dec.{eqb, leb}
 use lib.ListN.{length, drop}
 use Rattle.octets.specs.Strings.{isNot, run}
+use Rattle.octets.specs.Texts.{all}
 use Rattle.pieces.specs.Pieces.{pieces, isEnded}
 use Rattle.text.specs.Classes.{areAll}
 use Rattle.text.specs.declared.Class.the-variants.{Text, Hexadecimal}
@@ -20,22 +22,31 @@ pub data Value : Type 0 where
   octets : List ℕ → Value
   bad : Value
 
+-- the end-of-field character
+abbrev pub tilde : ℕ
+tilde = code "~"
+
 -- two hexadecimal digits an octet
 unfoldable pub isOctets : List ℕ → Bool
-isOctets v = eqb (length v % 2) 0 && areAll Hexadecimal v
+isOctets v =
+    all (
+    eqb (length v % 2) 0
+    ∷ areAll Hexadecimal v
+    ∷ [])
 
 -- the value, if its content is in form
 abbrev pub provided : Bool → Value → Value
 provided true v = v
 provided false v = bad
 
--- the content v of a field under its type: N, P, D or H
+-- the content v of a field under its type (001 Table 6)
 unfoldable pub typed : ℕ → List ℕ → Value
 typed t v =
-    cond (eqb t 78) (provided (isNumber 10 0 2147483647 v) (number (decimal v)))
-    (cond (eqb t 80) (provided (areAll Text v) (string v))
-    (cond (eqb t 68) (provided (isDateTime v) (date v))
-    (cond (eqb t 72) (provided (isOctets v) (octets v)) bad)))
+    cond (eqb t (code "N")) (provided (isNumber 10 0 2147483647 v) (number (decimal v)))  -- Number
+    (cond (eqb t (code "P")) (provided (areAll Text v) (string v))  -- PrintableString
+    (cond (eqb t (code "D")) (provided (isDateTime v) (date v))  -- DateTime
+    (cond (eqb t (code "H")) (provided (isOctets v) (octets v))  -- HexOctets
+    bad)))
 
 -- the value of a field without its ~: type, then content
 abbrev pub valueOf : List ℕ → Value
@@ -44,7 +55,7 @@ valueOf (t ∷ v) = typed t v
 
 -- the fields of a payload, each ended by ~; what follows the last ~ is a bad one
 unfoldable pub valuesOf : List ℕ → List Value
-valuesOf s = map valueOf (pieces 126 s) ++ cond (isEnded 126 s) [] (bad ∷ [])
+valuesOf s = map valueOf (pieces tilde s) ++ cond (isEnded tilde s) [] (bad ∷ [])
 
 abbrev pub first : List Value → Value
 first [] = bad
@@ -63,17 +74,17 @@ after (octets v) at e = e + 1
 after bad at e = at
 
 unfoldable pub nextAt : List ℕ → ℕ → ℕ
-nextAt s at = after (valueAt s at) at (at + run (isNot 126) (drop at s))
+nextAt s at = after (valueAt s at) at (at + run (isNot tilde) (drop at s))
 
 -- a field as it is written: type, content, ~
 unfoldable pub contentBytes : ℕ → List ℕ → List ℕ
-contentBytes t v = t ∷ (v ++ (126 ∷ []))
+contentBytes t v = t ∷ (v ++ (tilde ∷ []))
 
 abbrev pub fieldBytes : Value → List ℕ
-fieldBytes (number n) = contentBytes 78 (decimalBytes n)
-fieldBytes (string v) = contentBytes 80 v
-fieldBytes (date v) = contentBytes 68 v
-fieldBytes (octets v) = contentBytes 72 v
+fieldBytes (number n) = contentBytes (code "N") (decimalBytes n)
+fieldBytes (string v) = contentBytes (code "P") v
+fieldBytes (date v) = contentBytes (code "D") v
+fieldBytes (octets v) = contentBytes (code "H") v
 fieldBytes bad = []
 
 abbrev pub payloadBytes : List Value → List ℕ

@@ -4,10 +4,11 @@ ghost use mathlib.Core.Path.{_≡_};
 ghost use Prim.Native.Nat.{_+_, _-_, _^_, _≤_, _<_};
 ghost use lib.ListN.{length, take, drop};
 ghost use Rattle.fields.specs.Values.{isOctets, typed, valueAt, nextAt};
-ghost use Rattle.fields.specs.Bounds.{meant, Within, numberOf, placeAfter};
+ghost use Rattle.fields.specs.Bounds.{fieldValue, Within, numberOf, placeAfter};
 ghost use Rattle.timestamp.specs.Timestamps.{isDateTime};
 
-// A field that was read: a number by its value, a string, date or hex octets by the bounds of its content in the payload; or none.
+// A field that was read: a number by its value, a string, date or hex octets by the bounds of its content in the
+// payload; or none.
 pub enum Field {
     Number(u32),
     Text { start: usize, end: usize },
@@ -22,13 +23,13 @@ pub struct Read {
     pub next: usize,
 }
 
-pub fn is_octets(v: &[u8]) -> bool
-    ensures { λ r. ⌜ r ≡ isOctets (now (v .entry)) ⌝ }
+pub fn is_octets(digits: &[u8]) -> bool
+    ensures { λ r. ⌜ r ≡ isOctets (now (digits .entry)) ⌝ }
 {
-    if v.len() % 2 != 0 {
+    if digits.len() % 2 != 0 {
         return false;
     }
-    text::are_all(Class::Hexadecimal, v)
+    text::are_all(Class::Hexadecimal, digits)
 }
 
 fn is_date_time(v: &[u8]) -> bool
@@ -49,26 +50,26 @@ fn number_of(v: &[u8]) -> Field
 // The field of a type whose content stands from start to end.
 fn field_of(kind: u8, s: &[u8], start: usize, end: usize) -> Field
     requires { ⌜ (start ≤ end) × (end ≤ length (now s)) ⌝ }
-    ensures { λ r. ⌜ meant (now (s .entry)) r ≡ typed kind (take (end - start) (drop start (now (s .entry)))) ⌝ }
+    ensures { λ r. ⌜ fieldValue (now (s .entry)) r ≡ typed kind (take (end - start) (drop start (now (s .entry)))) ⌝ }
     ensures within { λ r. ⌜ Within (length (now (s .entry))) r ⌝ }
 {
     let v = &s[start..end];
-    if kind == 78 {
+    if kind == b'N' {
         return number_of(v);
     }
-    if kind == 80 {
+    if kind == b'P' {
         if text::are_text(v) {
             return Field::Text { start, end };
         }
         return Field::Bad;
     }
-    if kind == 68 {
+    if kind == b'D' {
         if is_date_time(v) {
             return Field::Date { start, end };
         }
         return Field::Bad;
     }
-    if kind == 72 {
+    if kind == b'H' {
         if is_octets(v) {
             return Field::Octets { start, end };
         }
@@ -77,19 +78,19 @@ fn field_of(kind: u8, s: &[u8], start: usize, end: usize) -> Field
 }
 
 // The field at a place, and the place after it.
-pub fn read_field(s: &[u8], at: usize) -> Read
-    ensures { λ r. ⌜ meant (now (s .entry)) (r .field) ≡ valueAt (now (s .entry)) at ⌝ }
-    ensures within { λ r. ⌜ Within (length (now (s .entry))) (r .field) ⌝ }
-    ensures next { λ r. ⌜ r .next ≡ nextAt (now (s .entry)) at ⌝ }
+pub fn read_field(payload: &[u8], at: usize) -> Read
+    ensures { λ r. ⌜ fieldValue (now (payload .entry)) (r .field) ≡ valueAt (now (payload .entry)) at ⌝ }
+    ensures within { λ r. ⌜ Within (length (now (payload .entry))) (r .field) ⌝ }
+    ensures next { λ r. ⌜ r .next ≡ nextAt (now (payload .entry)) at ⌝ }
 {
-    if s.len() <= at {
+    if payload.len() <= at {
         return Read {
             field: Field::Bad,
             next: at,
         };
     }
-    let end = pieces::piece_end(s, at, 126);
-    if s.len() <= end {
+    let end = pieces::piece_end(payload, at, b'~');
+    if payload.len() <= end {
         return Read {
             field: Field::Bad,
             next: at,
@@ -101,7 +102,7 @@ pub fn read_field(s: &[u8], at: usize) -> Read
             next: at,
         };
     }
-    let field = field_of(s[at], s, at + 1, end);
+    let field = field_of(payload[at], payload, at + 1, end);
     Read {
         field,
         next: next_after(field, at, end),

@@ -2,15 +2,16 @@
 use mathlib.Core.Path.{_≡_, refl, sym, _∙_}
 use mathlib.Core.Bool.{Bool, true, false, _&&_, _||_}
 use mathlib.Core.List.{List, [], _∷_}
-use mathlib.Core.Logic.{_⊎_, ⊎-elim}
+use mathlib.Core.Logic.{_⊎_, inl, inr, ⊎-elim}
 use Prim.Native.Nat.{ℕ, _≤_}
 use native.Mathlib.Omega.{arith}
 use lib.Dec.{leb, eqb}
-use lib.ListN.{length, getD}
+use lib.ListN.{length}
 use borrow.Author.Tests.{eqb-true, eq-eqb}
-use Rattle.octets.specs.Strings.{allOf, isNot}
+use Rattle.octets.specs.Strings.{allOf, isNot, sameBytes}
+use Rattle.octets.specs.Texts.{text}
 use Rattle.octets.proofs.Flags.{nope, and-first, and-second, and-both, or-cases}
-use Rattle.octets.proofs.StringLaws.{all-wider}
+use Rattle.octets.proofs.StringLaws.{all-wider, same-equal}
 use Rattle.text.specs.Classes.{within, isAlphanumeric, isMark, isOf, areAll}
 use Rattle.text.specs.declared.Class.the-variants.{Digit, Hexadecimal, Identifier, Text, Value}
 use Rattle.text.proofs.Printable.{wider}
@@ -91,29 +92,10 @@ unfolding areAll
 stamp-bytes v p = all-but (isOf Identifier) v (λ d e. stamp-other d e v p)
 
 -- 02 or 04
-module _ (v : List ℕ) (e : isAlgorithm v ≡ true) where
-  abbrev second : Bool
-  second = eqb (getD v 1 0) 50 || eqb (getD v 1 0) 52
-
-  algorithm-length : length v ≡ 2
-  unfolding isAlgorithm
-  algorithm-length = eqb-true (length v) 2 (and-first (eqb (length v) 2) (eqb (getD v 0 0) 48 && second) e)
-
-  algorithm-tail : (eqb (getD v 0 0) 48 && second) ≡ true
-  unfolding isAlgorithm
-  algorithm-tail = and-second (eqb (length v) 2) (eqb (getD v 0 0) 48 && second) e
-
-  algorithm-first : getD v 0 0 ≡ 48
-  algorithm-first = eqb-true (getD v 0 0) 48 (and-first (eqb (getD v 0 0) 48) second algorithm-tail)
-
-  algorithm-second : (eqb (getD v 1 0) 50 ≡ true) ⊎ (eqb (getD v 1 0) 52 ≡ true)
-  algorithm-second = or-cases (eqb (getD v 1 0) 50) (eqb (getD v 1 0) 52) (and-second (eqb (getD v 0 0) 48) second algorithm-tail)
-
-two-digits : (v : List ℕ) → length v ≡ 2 → getD v 0 0 ≡ 48 → ((eqb (getD v 1 0) 50 ≡ true) ⊎ (eqb (getD v 1 0) 52 ≡ true)) → allOf (isOf Digit) v ≡ true
-two-digits [] n p q = refl
-two-digits (a ∷ []) n p q = absurd (omega arith)
-two-digits (a ∷ b ∷ []) n p q = ⊎-elim (λ (o : eqb b 50 ≡ true). rw (p, eqb-true b 50 o)) (λ (o : eqb b 52 ≡ true). rw (p, eqb-true b 52 o)) q
-two-digits (a ∷ b ∷ c ∷ v) n p q = absurd (omega arith)
+pub algorithm-is : (v : List ℕ) → isAlgorithm v ≡ true → (v ≡ text "02") ⊎ (v ≡ text "04")
+unfolding isAlgorithm
+algorithm-is v e =
+    ⊎-elim (λ p. inl (same-equal v (text "02") p)) (λ p. inr (same-equal v (text "04") p)) (or-cases (sameBytes v (text "02")) (sameBytes v (text "04")) e)
 
 -- every byte of a value in form is one that an identifier may hold
 module _ (v : List ℕ) where
@@ -126,9 +108,8 @@ module _ (v : List ℕ) where
   of-hex e = all-wider (isOf Hexadecimal) (isOf Identifier) hex-identifier v e
 
   of-algorithm : isAlgorithm v ≡ true → areAll Identifier v ≡ true
-  unfolding areAll
-  of-algorithm e =
-      all-wider (isOf Digit) (isOf Identifier) digit-identifier v (two-digits v (algorithm-length v e) (algorithm-first v e) (algorithm-second v e))
+  unfolding areAll isAlphanumeric
+  of-algorithm e = ⊎-elim (λ (p : v ≡ text "02"). rw p) (λ (p : v ≡ text "04"). rw p) (algorithm-is v e)
 
   of-nothing : length v ≡ 0 → areAll Identifier v ≡ true
   unfolding areAll
@@ -203,7 +184,7 @@ most Empty = 0
 
 pub in-form-short : (f : Form) (v : List ℕ) → isBounded f ≡ true → inForm f v ≡ true → length v ≤ most f
 in-form-short Timestamp v b e = let n = timestamp-length v e in omega arith
-in-form-short Algorithm v b e = let n = algorithm-length v e in omega arith
+in-form-short Algorithm v b e = ⊎-elim (λ (p : v ≡ text "02"). rw p (omega arith)) (λ (p : v ≡ text "04"). rw p (omega arith)) (algorithm-is v e)
 in-form-short (Number digits low high) v b e = number-short digits low high v (and-second (leb digits 10) (isNumber digits low high v) e)
 in-form-short (Digits n) v b e = let l = eqb-true (length v) n (and-first (eqb (length v) n) (areAll Digit v) e) in omega arith
 in-form-short (Hex n) v b e = let l = eqb-true (length v) n (and-first (eqb (length v) n) (areAll Hexadecimal v) e) in omega arith

@@ -1,16 +1,20 @@
 -- The cases of the forms, each with what the code knows where it answers as premises.
-use mathlib.Core.Path.{_≡_}
-use mathlib.Core.Bool.{Bool, true, false}
-use mathlib.Core.List.{List}
+use mathlib.Core.Path.{_≡_, refl, ap, _∙_}
+use mathlib.Core.Bool.{Bool, true, false, _&&_, _||_}
+use mathlib.Core.List.{List, [], _∷_}
 use Prim.Native.Nat.{ℕ, _≤_, _<_}
+use native.Mathlib.Omega.{arith}
 use lib.Dec.{eqb}
 use lib.ListN.{length, getD}
 use borrow.Author.Tests.{eq-eqb, ne-eqb, le-leb, lt-leb}
+use Rattle.octets.specs.Texts.{text}
+use Rattle.octets.proofs.StringLaws.{same-length}
 use Rattle.text.specs.Classes.{areAll}
 use Rattle.text.specs.Identifiers.{isIdentifier}
 use Rattle.text.specs.declared.Class.the-variants.{Digit, Hexadecimal}
 use Rattle.decimals.specs.Decimals.{isNumber}
 use Rattle.timestamp.specs.Timestamps.{timestampOf, isMoment, isTimestamp}
+use Rattle.timestamp.proofs.MomentLaws.{timestamp-moment}
 use Rattle.timestamp.specs.declared.Moment.{Moment}
 use Rattle.forms.specs.Forms.{isAlgorithm, inForm}
 use Rattle.forms.specs.declared.Form.{Form}
@@ -18,32 +22,40 @@ use Rattle.forms.specs.declared.Form.the-variants.{Timestamp, Algorithm,
 
 -- is_timestamp
 pub a-timestamp : (v : List ℕ) (m : Moment) → m ≡ timestampOf v → (r : Bool) → r ≡ isMoment m → r ≡ isTimestamp v
-unfolding isTimestamp
-a-timestamp v m e r p = rw (← e, p)
+a-timestamp v m e r p = p ∙ ap isMoment e ∙ timestamp-moment v
 
--- is_algorithm
+-- is_algorithm: two bytes, of which the first is 0 and the second 2 or 4
+by-bytes : (v : List ℕ) → length v ≡ 2 → isAlgorithm v ≡ (eqb (getD v 0 0) 48 && (eqb (getD v 1 0) 50 || eqb (getD v 1 0) 52))
+unfolding isAlgorithm
+by-bytes [] n = absurd (omega arith)
+by-bytes (a ∷ []) n = absurd (omega arith)
+by-bytes (a ∷ b ∷ []) n = by-case (eqb a 48) (eqb b 50) (eqb b 52)
+  where
+    by-case : (x y z : Bool) → (x && (y && true) || x && (z && true)) ≡ (x && (y || z))
+    by-case false y z = refl
+    by-case true true z = refl
+    by-case true false true = refl
+    by-case true false false = refl
+by-bytes (a ∷ b ∷ c ∷ v) n = absurd (omega arith)
+
 module _ (v : List ℕ) where
   pub not-two : (length v ≡ 2 → ⊥) → false ≡ isAlgorithm v
   unfolding isAlgorithm
-  not-two o = rw (ne-eqb (length v) 2 o)
+  not-two o = rw (← same-length v (text "02") o, ← same-length v (text "04") o)
 
   module _ (n : length v ≡ 2) where
     pub no-zero-first : (getD v 0 0 ≡ 48 → ⊥) → false ≡ isAlgorithm v
-    unfolding isAlgorithm
-    no-zero-first o = rw (n, ne-eqb (getD v 0 0) 48 o)
+    no-zero-first o = rw (by-bytes v n, ne-eqb (getD v 0 0) 48 o)
 
     module _ (z : getD v 0 0 ≡ 48) where
       pub is-02 : getD v 1 0 ≡ 50 → true ≡ isAlgorithm v
-      unfolding isAlgorithm
-      is-02 o = rw (n, z, o)
+      is-02 o = rw (by-bytes v n, z, o)
 
       pub is-04 : getD v 1 0 ≡ 52 → true ≡ isAlgorithm v
-      unfolding isAlgorithm
-      is-04 o = rw (n, z, o)
+      is-04 o = rw (by-bytes v n, z, o)
 
       pub is-other : (getD v 1 0 ≡ 50 → ⊥) → (getD v 1 0 ≡ 52 → ⊥) → false ≡ isAlgorithm v
-      unfolding isAlgorithm
-      is-other o p = rw (n, z, ne-eqb (getD v 1 0) 50 o, ne-eqb (getD v 1 0) 52 p)
+      is-other o p = rw (by-bytes v n, z, ne-eqb (getD v 1 0) 50 o, ne-eqb (getD v 1 0) 52 p)
 
 -- in_form: f is the form, r what the callee of its arm said
 module _ (f : Form) (v : List ℕ) (r : Bool) where

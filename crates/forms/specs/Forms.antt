@@ -1,29 +1,39 @@
 -- The forms of the values in cards and records.
 use Prim.Native.Nat.{ℕ}
-use mathlib.Core.Bool.{Bool, _&&_, _||_}
-use mathlib.Core.List.{List}
+use mathlib.Core.Bool.{Bool, _||_}
+use mathlib.Core.List.{List, [], _∷_}
 use lib.Dec.{leb, eqb}
-use lib.ListN.{length, getD}
+use lib.ListN.{length}
+use Rattle.octets.specs.Strings.{sameBytes}
+use Rattle.octets.specs.Texts.{text, all}
 use Rattle.text.specs.Classes.{areAll}
 use Rattle.text.specs.Identifiers.{isIdentifier}
 use Rattle.text.specs.declared.Class.the-variants as class
 use Rattle.decimals.specs.Decimals.{isNumber}
 use Rattle.timestamp.specs.Timestamps.{isTimestamp}
 use Rattle.forms.specs.declared.Form.{Form}
-use Rattle.forms.specs.declared.Form.the-variants.{Timestamp, Algorithm, Number, Digits, Hex, HexSome, Name, Empty}
+use Rattle.forms.specs.declared.Form.the-variants.{Timestamp, Algorithm, Number, Digits}
+use Rattle.forms.specs.declared.Form.the-variants.{Hex, HexSome, Name, Empty}
 
--- 02 or 04 (document 01, Cards, DKG)
+-- document 01, Cards: DKG (02 or 04)
 unfoldable pub isAlgorithm : List ℕ → Bool
-isAlgorithm v = eqb (length v) 2 && (eqb (getD v 0 0) 48 && (eqb (getD v 1 0) 50 || eqb (getD v 1 0) 52))
+isAlgorithm v = sameBytes v (text "02") || sameBytes v (text "04")
 
--- the value v has the form: YYYYMMDDThhmmssZ; 02 or 04; a decimal number without leading zero, of so many digits and in a range; so many decimal digits;
--- so many hexadecimal digits; one or more of them; an identifier; no byte at all (document 01, "What the caller lends", Records, Cards)
+-- the value v has the form
 abbrev pub inForm : Form → List ℕ → Bool
+-- document 01, What the caller lends: YYYYMMDDThhmmssZ
 inForm Timestamp v = isTimestamp v
+-- document 01, Cards: 02 or 04
 inForm Algorithm v = isAlgorithm v
-inForm (Number digits low high) v = leb digits 10 && isNumber digits low high v
-inForm (Digits n) v = eqb (length v) n && areAll class.Digit v
-inForm (Hex n) v = eqb (length v) n && areAll class.Hexadecimal v
-inForm HexSome v = leb 1 (length v) && areAll class.Hexadecimal v
+-- document 01, Cards: a decimal number in a range, of so many digits at most, without leading zero
+inForm (Number digits low high) v = all (leb digits 10 ∷ isNumber digits low high v ∷ [])
+-- document 01, Cards: so many decimal digits
+inForm (Digits n) v = all (eqb (length v) n ∷ areAll class.Digit v ∷ [])
+-- document 01, What the caller lends, Records, Cards: so many hexadecimal digits
+inForm (Hex n) v = all (eqb (length v) n ∷ areAll class.Hexadecimal v ∷ [])
+-- document 01, Records: one or more hexadecimal digits
+inForm HexSome v = all (leb 1 (length v) ∷ areAll class.Hexadecimal v ∷ [])
+-- document 01, Records: an identifier, of type IDENT
 inForm Name v = isIdentifier v
+-- document 01, Records: an empty field
 inForm Empty v = eqb (length v) 0

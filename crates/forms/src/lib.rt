@@ -27,50 +27,50 @@ fn is_algorithm(v: &[u8]) -> bool
     if v.len() != 2 {
         return false;
     }
-    if v[0] != 48 {
+    if v[0] != b'0' {
         return false;
     }
-    if v[1] == 50 {
+    if v[1] == b'2' {
         return true;
     }
-    if v[1] == 52 {
+    if v[1] == b'4' {
         return true;
     }
     false
 }
 
-// Whether the value v has the form.
-pub fn in_form(f: Form, v: &[u8]) -> bool
-    ensures { λ r. ⌜ r ≡ inForm f (now (v .entry)) ⌝ }
+// Whether the value has the form.
+pub fn in_form(form: Form, value: &[u8]) -> bool
+    ensures { λ r. ⌜ r ≡ inForm form (now (value .entry)) ⌝ }
 {
-    match f {
-        Form::Timestamp => is_timestamp(v),
-        Form::Algorithm => is_algorithm(v),
+    match form {
+        Form::Timestamp => is_timestamp(value),
+        Form::Algorithm => is_algorithm(value),
         Form::Number(digits, low, high) => {
             if 10 < digits {
                 return false;
             }
-            decimals::is_number(digits, low, high, v)
+            decimals::is_number(digits, low, high, value)
         }
         Form::Digits(n) => {
-            if v.len() != n {
+            if value.len() != n {
                 return false;
             }
-            text::are_all(Class::Digit, v)
+            text::are_all(Class::Digit, value)
         }
         Form::Hex(n) => {
-            if v.len() != n {
+            if value.len() != n {
                 return false;
             }
-            text::are_all(Class::Hexadecimal, v)
+            text::are_all(Class::Hexadecimal, value)
         }
         Form::HexSome => {
-            if v.len() < 1 {
+            if value.len() < 1 {
                 return false;
             }
-            text::are_all(Class::Hexadecimal, v)
+            text::are_all(Class::Hexadecimal, value)
         }
-        Form::Name => text::is_identifier(v),
-        Form::Empty => v.len() == 0,
+        Form::Name => text::is_identifier(value),
+        Form::Empty => value.len() == 0,
     }
 }

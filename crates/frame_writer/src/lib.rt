@@ -1,4 +1,5 @@
-// The head of a response and the ending of a message written into a lent buffer (001 clauses 5.2 and 5.3; document 01, "Checksum and fields").
+// The head of a response and the ending of a message written into a lent buffer (001 clauses 5.2 and 5.3; document
+// 01, "Checksum and fields").
 use checksum::Kind;
 ghost use mathlib.Core.Path.{_≡_};
 ghost use Prim.Native.Nat.{_+_, _≤_};
@@ -6,24 +7,26 @@ ghost use lib.ListN.{length, take};
 ghost use Rattle.octets.specs.Wrote.{Wrote};
 ghost use Rattle.frames.specs.Frames.{ending, headBytes};
 
-// Writes the head of a response from the start on: the header with ! for ?, and the status. Answers the place after it.
+// Writes the head of a response from the start on: the header with ! for ?, and the status. Answers the place after
+// it.
 pub fn put_head(dst: &mut [u8], header: &[u8], status: &[u8]) -> usize
     requires { ⌜ (3 ≤ length (now header)) × (length (now header) + length (now status) ≤ length (now dst)) ⌝ }
-    ensures { λ r. ⌜ Wrote (now (dst .entry)) 0 (headBytes (now (header .entry)) (now (status .entry))) (now (dst .exit)) r ⌝ }
+    ensures { λ r. ⌜ Wrote (now (dst .entry)) 0 (headBytes (now (header .entry)) (now (status .entry)))
+        (now (dst .exit)) r ⌝ }
     ensures short { λ r. ⌜ r ≡ length (now (header .entry)) + length (now (status .entry)) ⌝ }
 {
     let a = octets::put(dst, 0, &header[0..2]);
-    let b = octets::put_byte(dst, a, 33);
+    let b = octets::put_byte(dst, a, b'!');
     let c = octets::put(dst, b, &header[3..]);
     octets::put(dst, c, status)
 }
 
-// Ends the message of the first n bytes: checksum and carriage return. Answers the place after them.
-pub fn close_message(dst: &mut [u8], n: usize) -> usize
-    requires { ⌜ n + 5 ≤ length (now dst) ⌝ }
-    ensures { λ r. ⌜ Wrote (now (dst .entry)) n (ending (take n (now (dst .entry)))) (now (dst .exit)) r ⌝ }
-    ensures short { λ r. ⌜ r ≡ n + 5 ⌝ }
+// Ends the message of the bytes before a place: checksum and carriage return. Answers the place after them.
+pub fn close_message(dst: &mut [u8], end: usize) -> usize
+    requires { ⌜ end + 5 ≤ length (now dst) ⌝ }
+    ensures { λ r. ⌜ Wrote (now (dst .entry)) end (ending (take end (now (dst .entry)))) (now (dst .exit)) r ⌝ }
+    ensures short { λ r. ⌜ r ≡ end + 5 ⌝ }
 {
-    let a = checksum::put_sum(Kind::Arc, dst, 0, n);
-    octets::put_byte(dst, a, 13)
+    let a = checksum::put_sum(Kind::Arc, dst, 0, end);
+    octets::put_byte(dst, a, b'\r')
 }

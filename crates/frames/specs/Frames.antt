@@ -1,24 +1,39 @@
--- The frame of a message: header, payload, checksum, carriage return (001 clauses 5.2 and 5.3; document 01, Checksum and fields).
+-- The frame of a message: header, payload, checksum, carriage return (001 clauses 5.2 and 5.3; document 01, Checksum
+-- and fields).
 use Prim.Native.Nat.{ℕ, _-_}
-use mathlib.Core.Bool.{Bool, _&&_}
+use mathlib.Core.Bool.{Bool}
 use mathlib.Core.List.{List, [], _∷_, _++_}
 use lib.Dec.{eqb, leb}
 use lib.ListN.{length, take, drop}
 use Rattle.octets.specs.Strings.{isNot, run}
+use Rattle.octets.specs.Texts.{text, all}
 use Rattle.checksum.specs.Checksum.{sumDigits, endsInSum}
 use Rattle.checksum.specs.declared.Kind.the-variants.{Arc}
 
+-- the terminator of a message (001 clause 5.3.1)
+abbrev pub carriageReturn : ℕ
+carriageReturn = 13
+
 -- the first carriage return is the last byte
 unfoldable pub endsInReturn : List ℕ → Bool
-endsInReturn s = eqb (run (isNot 13) s) (length s - 1)
+endsInReturn s = eqb (run (isNot carriageReturn) s) (length s - 1)
 
--- question 5: 10 to 1,024 bytes, and the only carriage return at the end
+-- question 5
 unfoldable pub isWhole : List ℕ → Bool
-isWhole s = leb 10 (length s) && (leb (length s) 1024 && endsInReturn s)
+isWhole s =
+    all (
+    leb 10 (length s)  -- 10 to 1,024 bytes in all
+    ∷ leb (length s) 1024
+    ∷ endsInReturn s  -- the only carriage return, at the end
+    ∷ [])
 
 -- question 6: the checksum before the carriage return is that of all before it
 unfoldable pub isChecked : List ℕ → Bool
-isChecked s = leb 1 (length s) && endsInSum Arc (take (length s - 1) s)
+isChecked s =
+    all (
+    leb 1 (length s)
+    ∷ endsInSum Arc (take (length s - 1) s)
+    ∷ [])
 
 -- what the checksum covers
 unfoldable pub textOf : List ℕ → List ℕ
@@ -33,7 +48,7 @@ payloadOf s = drop 5 (textOf s)
 
 -- checksum and carriage return of a text
 unfoldable pub ending : List ℕ → List ℕ
-ending s = sumDigits Arc s ++ (13 ∷ [])
+ending s = sumDigits Arc s ++ (carriageReturn ∷ [])
 
 -- a message as it is sent
 unfoldable pub framed : List ℕ → List ℕ
@@ -45,7 +60,7 @@ requestBytes header payload = framed (header ++ payload)
 
 -- a response's header: that of the request with ! for ? (001 clause 5.3.1)
 unfoldable pub answered : List ℕ → List ℕ
-answered header = take 2 header ++ (33 ∷ drop 3 header)
+answered header = take 2 header ++ (text "!" ++ drop 3 header)
 
 -- header and status of a response
 unfoldable pub headBytes : List ℕ → List ℕ → List ℕ

@@ -1,4 +1,5 @@
-// The frame of a message, read: its length, carriage return and checksum, its header and payload (001 clauses 5.2 and 5.3; document 01, "Checksum and fields").
+// The frame of a message, read: its length, carriage return and checksum, its header and payload (001 clauses 5.2 and
+// 5.3; document 01, "Checksum and fields").
 use checksum::Kind;
 ghost use mathlib.Core.Path.{_≡_};
 ghost use Prim.Native.Nat.{_-_};
@@ -6,27 +7,27 @@ ghost use lib.ListN.{length};
 ghost use Rattle.frames.specs.Frames.{isWhole, isChecked, headerOf, payloadOf};
 
 // Whether length and the only carriage return, at the end, are right (question 5).
-pub fn is_whole(s: &[u8]) -> bool
-    ensures { λ r. ⌜ r ≡ isWhole (now (s .entry)) ⌝ }
+pub fn is_whole(message: &[u8]) -> bool
+    ensures { λ r. ⌜ r ≡ isWhole (now (message .entry)) ⌝ }
 {
-    if s.len() < 10 {
+    if message.len() < 10 {
         return false;
     }
-    if 1024 < s.len() {
+    if 1024 < message.len() {
         return false;
     }
-    pieces::piece_end(s, 0, 13) == s.len() - 1
+    pieces::piece_end(message, 0, b'\r') == message.len() - 1
 }
 
 // Whether the checksum before the carriage return is right (question 6).
-pub fn is_checked(s: &[u8]) -> bool
-    ensures { λ r. ⌜ r ≡ isChecked (now (s .entry)) ⌝ }
+pub fn is_checked(message: &[u8]) -> bool
+    ensures { λ r. ⌜ r ≡ isChecked (now (message .entry)) ⌝ }
 {
-    if s.len() < 1 {
+    if message.len() < 1 {
         return false;
     }
-    let n = s.len() - 1;
-    checksum::ends_in_sum(Kind::Arc, &s[..n])
+    let n = message.len() - 1;
+    checksum::ends_in_sum(Kind::Arc, &message[..n])
 }
 
 // Where the text ends that the checksum covers.
@@ -37,23 +38,23 @@ fn text_end(s: &[u8]) -> usize
 }
 
 // The header of a message.
-pub fn header<'a>(s: &'a [u8]) -> &'a [u8]
-    ensures { λ r. ⌜ now r ≡ headerOf (now (s .entry)) ⌝ }
+pub fn header<'a>(message: &'a [u8]) -> &'a [u8]
+    ensures { λ r. ⌜ now r ≡ headerOf (now (message .entry)) ⌝ }
 {
-    let n = text_end(s);
+    let n = text_end(message);
     if n < 5 {
-        return &s[0..n];
+        return &message[0..n];
     }
-    &s[0..5]
+    &message[0..5]
 }
 
 // The payload of a request.
-pub fn payload<'a>(s: &'a [u8]) -> &'a [u8]
-    ensures { λ r. ⌜ now r ≡ payloadOf (now (s .entry)) ⌝ }
+pub fn payload<'a>(message: &'a [u8]) -> &'a [u8]
+    ensures { λ r. ⌜ now r ≡ payloadOf (now (message .entry)) ⌝ }
 {
-    let n = text_end(s);
+    let n = text_end(message);
     if n < 5 {
-        return &s[0..0];
+        return &message[0..0];
     }
-    &s[5..n]
+    &message[5..n]
 }

@@ -15,16 +15,16 @@ fn put_octet(dst: &mut [u8], at: usize, b: u8) -> usize
     octets::put_byte(dst, o, hexadecimal::hex_digit((b % 16) as u16))
 }
 
-// Writes the digits of s, and answers the place after them.
-pub fn put_digits(dst: &mut [u8], at: usize, s: &[u8]) -> usize
-    requires { ⌜ at + (length (now s) + length (now s)) ≤ length (now dst) ⌝ }
-    ensures { λ r. ⌜ Wrote (now (dst .entry)) at (digitsOf (now (s .entry))) (now (dst .exit)) r ⌝ }
-    ensures short { λ r. ⌜ r ≡ at + (length (now (s .entry)) + length (now (s .entry))) ⌝ }
+// Writes the digits of the bytes, and answers the place after them.
+pub fn put_digits(dst: &mut [u8], at: usize, bytes: &[u8]) -> usize
+    requires { ⌜ at + (length (now bytes) + length (now bytes)) ≤ length (now dst) ⌝ }
+    ensures { λ r. ⌜ Wrote (now (dst .entry)) at (digitsOf (now (bytes .entry))) (now (dst .exit)) r ⌝ }
+    ensures short { λ r. ⌜ r ≡ at + (length (now (bytes .entry)) + length (now (bytes .entry))) ⌝ }
 {
     let mut o = at;
     let mut j = 0;
-    while j < s.len() {
-        o = put_octet(dst, o, s[j]);
+    while j < bytes.len() {
+        o = put_octet(dst, o, bytes[j]);
         j += 1;
     }
     o
@@ -37,16 +37,16 @@ fn octet_of(a: u8, b: u8) -> u8
     ((hexadecimal::hex_value(a) * 16 + hexadecimal::hex_value(b)) % 256) as u8
 }
 
-// Writes the octets of the digits s from the start on, and answers how many there are.
-pub fn put_octets(dst: &mut [u8], s: &[u8]) -> usize
-    requires { ⌜ length (now s) ≤ length (now dst) + length (now dst) ⌝ }
-    ensures { λ r. ⌜ Wrote (now (dst .entry)) 0 (octetsOf (now (s .entry))) (now (dst .exit)) r ⌝ }
+// Writes the octets of the digits from the start on, and answers how many there are.
+pub fn put_octets(dst: &mut [u8], digits: &[u8]) -> usize
+    requires { ⌜ length (now digits) ≤ length (now dst) + length (now dst) ⌝ }
+    ensures { λ r. ⌜ Wrote (now (dst .entry)) 0 (octetsOf (now (digits .entry))) (now (dst .exit)) r ⌝ }
     ensures fits { λ r. ⌜ r ≤ length (now (dst .entry)) ⌝ }
 {
     let mut n = 0;
     let mut i = 0;
-    while i + 1 < s.len() {
-        dst[n] = octet_of(s[i], s[i + 1]);
+    while i + 1 < digits.len() {
+        dst[n] = octet_of(digits[i], digits[i + 1]);
         n += 1;
         i += 2;
     }

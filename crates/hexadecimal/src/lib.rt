@@ -11,46 +11,46 @@ pub enum Hex4 {
     Bad,
 }
 
-pub fn hex_digit(n: u16) -> u8
-    requires { ⌜ n < 16 ⌝ }
-    ensures { λ r. ⌜ r ≡ hexDigit n ⌝ }
+pub fn hex_digit(number: u16) -> u8
+    requires { ⌜ number < 16 ⌝ }
+    ensures { λ r. ⌜ r ≡ hexDigit number ⌝ }
 {
-    if n < 10 {
-        48 + (n as u8)
+    if number < 10 {
+        b'0' + (number as u8)
     } else {
-        55 + (n as u8)
+        55 + (number as u8)
     }
 }
 
 // The number of a digit; 16 where the byte is no digit.
-pub fn hex_value(b: u8) -> u16
-    ensures { λ r. ⌜ r ≡ hexValue b ⌝ }
+pub fn hex_value(digit: u8) -> u16
+    ensures { λ r. ⌜ r ≡ hexValue digit ⌝ }
 {
-    if b < 48 {
+    if digit < b'0' {
         return 16;
     }
-    if b < 58 {
-        return (b - 48) as u16;
+    if digit < 58 {
+        return (digit - b'0') as u16;
     }
-    if b < 65 {
+    if digit < b'A' {
         return 16;
     }
-    if b < 71 {
-        return (b - 55) as u16;
+    if digit < 71 {
+        return (digit - 55) as u16;
     }
     16
 }
 
-// Writes n as four digits, and answers the place after them.
-pub fn put_hex4(dst: &mut [u8], at: usize, n: u16) -> usize
+// Writes a number as four digits, and answers the place after them.
+pub fn put_hex4(dst: &mut [u8], at: usize, number: u16) -> usize
     requires { ⌜ at + 4 ≤ length (now dst) ⌝ }
-    ensures { λ r. ⌜ Wrote (now (dst .entry)) at (hex4 n) (now (dst .exit)) r ⌝ }
+    ensures { λ r. ⌜ Wrote (now (dst .entry)) at (hex4 number) (now (dst .exit)) r ⌝ }
     ensures short { λ r. ⌜ r ≡ at + 4 ⌝ }
 {
-    let o1 = octets::put_byte(dst, at, hex_digit(n / 4096));
-    let o2 = octets::put_byte(dst, o1, hex_digit(n / 256 % 16));
-    let o3 = octets::put_byte(dst, o2, hex_digit(n / 16 % 16));
-    octets::put_byte(dst, o3, hex_digit(n % 16))
+    let o1 = octets::put_byte(dst, at, hex_digit(number / 4096));
+    let o2 = octets::put_byte(dst, o1, hex_digit(number / 256 % 16));
+    let o3 = octets::put_byte(dst, o2, hex_digit(number / 16 % 16));
+    octets::put_byte(dst, o3, hex_digit(number % 16))
 }
 
 // The number of four digit values, where each is below 16.
@@ -73,18 +73,18 @@ fn from_digits(a: u16, b: u16, c: u16, d: u16) -> Hex4
 }
 
 // The four digits at a place.
-pub fn read_hex4(s: &[u8], at: usize) -> Hex4
-    ensures { λ r. ⌜ r ≡ readHex4 (now (s .entry)) at ⌝ }
+pub fn read_hex4(bytes: &[u8], at: usize) -> Hex4
+    ensures { λ r. ⌜ r ≡ readHex4 (now (bytes .entry)) at ⌝ }
 {
-    if s.len() < 4 {
+    if bytes.len() < 4 {
         return Hex4::Bad;
     }
-    if s.len() - 4 < at {
+    if bytes.len() - 4 < at {
         return Hex4::Bad;
     }
-    let a = hex_value(s[at]);
-    let b = hex_value(s[at + 1]);
-    let c = hex_value(s[at + 2]);
-    let d = hex_value(s[at + 3]);
+    let a = hex_value(bytes[at]);
+    let b = hex_value(bytes[at + 1]);
+    let c = hex_value(bytes[at + 2]);
+    let d = hex_value(bytes[at + 3]);
     from_digits(a, b, c, d)
 }

@@ -22,8 +22,8 @@ module _ (v w : List ℕ) (e : v ≡ w) (r : Bool) where
   pub form-of : (f : Form) → r ≡ inForm f v → r ≡ inForm f w
   form-of f p = rw (← e) p
 
-  pub record-of : (d : ℕ) (kind : List ℕ) (n : ℕ) → r ≡ isRecord d kind n v → r ≡ isRecord d kind n w
-  record-of d kind n p = rw (← e) p
+  pub record-of : (t : List ℕ) (d n : ℕ) → r ≡ isRecord t d n v → r ≡ isRecord t d n w
+  record-of t d n p = rw (← e) p
 
   pub identity-of : r ≡ identityInForm v → r ≡ identityInForm w
   identity-of p = rw (← e) p

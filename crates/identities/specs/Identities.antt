@@ -1,14 +1,16 @@
--- Identities (003 clause 7.1; document 01, Records): type, manufacturer or SWID, name, timestamp, fingerprint, split by a colon. What parses (question 9) apart from what is in form (question 10).
+-- Identities (003 clause 7.1; document 01, Records): type, manufacturer or SWID, name, timestamp, fingerprint, split
+-- by a colon. What parses (question 9) apart from what is in form (question 10).
 use Prim.Native.Nat.{ℕ}
-use mathlib.Core.Bool.{Bool, _&&_}
+use Prim.Native.Char.{code}
+use mathlib.Core.Bool.{Bool}
 use mathlib.Core.List.{List, [], _∷_}
-use Rattle.octets.specs.Texts.{text}
+use Rattle.octets.specs.Texts.{text, all}
 use Rattle.records.specs.Records.{field, isRecord}
 use Rattle.forms.specs.Forms.{inForm}
 use Rattle.forms.specs.declared.Form.the-variants.{Timestamp, Hex, Name}
 
 abbrev pub colon : ℕ
-colon = 58
+colon = code ":"
 
 abbrev pub kmcid1 : List ℕ
 kmcid1 = text "KMCID.1"
@@ -18,16 +20,21 @@ smid1 = text "SMID.1"
 
 -- the identity of a key management centre parses
 abbrev pub isKmcIdentity : List ℕ → Bool
-isKmcIdentity s = isRecord colon kmcid1 4 s
+isKmcIdentity s = isRecord kmcid1 colon 4 s
 
 -- the identity of a module parses
 abbrev pub isModuleIdentity : List ℕ → Bool
-isModuleIdentity s = isRecord colon smid1 4 s
+isModuleIdentity s = isRecord smid1 colon 4 s
 
 -- the fields of an identity are in form
 unfoldable pub identityInForm : List ℕ → Bool
 identityInForm s =
-    inForm Name (field colon 1 s) && (inForm Name (field colon 2 s) && (inForm Timestamp (field colon 3 s) && inForm (Hex 16) (field colon 4 s)))
+    all (
+    inForm Name (field colon 1 s)  -- SWID, or the manufacturer
+    ∷ inForm Name (field colon 2 s)  -- KMCID, or MID
+    ∷ inForm Timestamp (field colon 3 s)  -- timestamp
+    ∷ inForm (Hex 16) (field colon 4 s)  -- fingerprint
+    ∷ [])
 
 -- the name in an identity, KMCID or MID
 abbrev pub nameIn : List ℕ → List ℕ

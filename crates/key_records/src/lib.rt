@@ -1,47 +1,48 @@
-// Which records parse as the public key, load response and wrapped key of key management: question 9 (003 clauses 7.2 to 7.5; document 01, "Records").
+// Which records parse as the public key, load response and wrapped key of key management: question 9 (003 clauses 7.2
+// to 7.5; document 01, "Records").
 ghost use mathlib.Core.Path.{_≡_};
 ghost use Rattle.records.specs.Records.{field};
 ghost use Rattle.identities.specs.Identities.{isKmcIdentity, isModuleIdentity};
-ghost use Rattle.key_records.specs.KeyRecords.{parsesPublicKey, parsesResponse, parsesKey};
+ghost use Rattle.key_records.specs.KeyRecords.{bar, parsesPublicKey, parsesResponse, parsesKey};
 
-fn has_kmc_identity(s: &[u8]) -> bool
-    ensures { λ r. ⌜ r ≡ isKmcIdentity (field 124 1 (now (s .entry))) ⌝ }
+fn has_kmc_identity(source: &[u8]) -> bool
+    ensures { λ r. ⌜ r ≡ isKmcIdentity (field bar 1 (now (source .entry))) ⌝ }
 {
-    identities::is_kmc_identity(records::field(s, 124, 1))
+    identities::is_kmc_identity(records::field(source, b'|', 1))
 }
 
-fn has_module_identity(s: &[u8]) -> bool
-    ensures { λ r. ⌜ r ≡ isModuleIdentity (field 124 2 (now (s .entry))) ⌝ }
+fn has_module_identity(source: &[u8]) -> bool
+    ensures { λ r. ⌜ r ≡ isModuleIdentity (field bar 2 (now (source .entry))) ⌝ }
 {
-    identities::is_module_identity(records::field(s, 124, 2))
+    identities::is_module_identity(records::field(source, b'|', 2))
 }
 
-// Whether s parses as a public key with its KMC identity.
-pub fn parses_public_key(s: &[u8]) -> bool
-    ensures { λ r. ⌜ r ≡ parsesPublicKey (now (s .entry)) ⌝ }
+// Whether the source parses as a public key with its KMC identity.
+pub fn parses_public_key(source: &[u8]) -> bool
+    ensures { λ r. ⌜ r ≡ parsesPublicKey (now (source .entry)) ⌝ }
 {
-    if !records::is_record(s, 124, b"PK.ECDH.1", 5) {
+    if !records::is_record(b"PK.ECDH.1", b'|', 5, source) {
         return false;
     }
-    has_kmc_identity(s)
+    has_kmc_identity(source)
 }
 
-// Whether s parses as a load response with both its identities.
-pub fn parses_response(s: &[u8]) -> bool
-    ensures { λ r. ⌜ r ≡ parsesResponse (now (s .entry)) ⌝ }
+// Whether the source parses as a load response with both its identities.
+pub fn parses_response(source: &[u8]) -> bool
+    ensures { λ r. ⌜ r ≡ parsesResponse (now (source .entry)) ⌝ }
 {
-    if !records::is_record(s, 124, b"VKLOAD.RESP.1", 4) {
+    if !records::is_record(b"VKLOAD.RESP.1", b'|', 4, source) {
         return false;
     }
-    if !has_kmc_identity(s) {
+    if !has_kmc_identity(source) {
         return false;
     }
-    has_module_identity(s)
+    has_module_identity(source)
 }
 
-// Whether s parses as a wrapped key.
-pub fn parses_key(s: &[u8]) -> bool
-    ensures { λ r. ⌜ r ≡ parsesKey (now (s .entry)) ⌝ }
+// Whether the source parses as a wrapped key.
+pub fn parses_key(source: &[u8]) -> bool
+    ensures { λ r. ⌜ r ≡ parsesKey (now (source .entry)) ⌝ }
 {
-    records::is_record(s, 124, b"KEY.1", 3)
+    records::is_record(b"KEY.1", b'|', 3, source)
 }

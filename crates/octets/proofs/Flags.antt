@@ -25,6 +25,12 @@ pub or-cases : (a b : Bool) → (a || b) ≡ true → (a ≡ true) ⊎ (b ≡ tr
 or-cases true b e = inl refl
 or-cases false b e = inr e
 
+-- two tests that each hold where the other does are one
+pub both-ways : (a b : Bool) → (a ≡ true → b ≡ true) → (b ≡ true → a ≡ true) → a ≡ b
+both-ways true b f g = sym (f refl)
+both-ways false true f g = g refl
+both-ways false false f g = refl
+
 -- a flag that a chain of && or || made, said of the whole chain
 pub and-yes : {a x y : Bool} → a ≡ true → x ≡ y → x ≡ (a && y)
 and-yes {a} {x} {y} p e = rw p e

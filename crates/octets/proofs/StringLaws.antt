@@ -1,6 +1,6 @@
 -- Loops over byte strings: two compared, the run at the front counted, every byte tested.
 use mathlib.Core.Path.{_≡_, refl, sym, ap, _∙_}
-use mathlib.Core.Bool.{Bool, true, false, cond, not, _&&_, and-false}
+use mathlib.Core.Bool.{Bool, true, false, cond, not, _&&_, and-true, and-false, and-assoc}
 use mathlib.Core.List.{List, [], _∷_, _++_}
 use Prim.Native.Nat.{ℕ, zero, suc, _+_, _-_, _≤_, _<_, zero-le}
 use native.Mathlib.Nat.{sub-zero, zero-sub, suc-sub-suc}
@@ -8,7 +8,7 @@ use native.Mathlib.Numerals.{add-one}
 use native.Mathlib.Omega.{arith}
 use lib.Dec.{eqb, ltb}
 use lib.ListN.{length, getD, take, drop, drop-of-length-le, length-drop}
-use lib.Seq.{drop-cons, take-all, take-nil}
+use lib.Seq.{drop-cons, take-all, take-nil, length-take-le}
 use borrow.Author.Tests.{eq-eqb, ne-eqb, eqb-true, not-true, not-false}
 use Rattle.octets.specs.Strings.{sameBytes, allOf, run}
 use Rattle.octets.proofs.Flags.{nope, and-first, and-second, and-both}
@@ -59,6 +59,13 @@ module _ (a b : List ℕ) (i : ℕ) (x : Bool) (inv : sameBytes (drop i a) (drop
     same-turn o = rw (eq-eqb (getD a i 0) (getD b i 0) o) at (sym (same-cons a b i h (omega arith)) ∙ inv)
 
 -- the test is equality
+-- one byte more behind strings of the same length
+pub same-behind : (p q : List ℕ) (x y : ℕ) → length p ≡ length q → sameBytes (p ++ (x ∷ [])) (q ++ (y ∷ [])) ≡ (sameBytes p q && eqb x y)
+same-behind [] [] x y e = and-true (eqb x y)
+same-behind [] (b ∷ q) x y e = absurd (omega arith)
+same-behind (a ∷ p) [] x y e = absurd (omega arith)
+same-behind (a ∷ p) (b ∷ q) x y e = rw (same-behind p q x y (omega arith)) (sym (and-assoc (eqb a b) (sameBytes p q) (eqb x y)))
+
 pub same-self : (a : List ℕ) → sameBytes a a ≡ true
 same-self [] = refl
 same-self (x ∷ xs) = rw (eq-eqb x x refl) (same-self xs)
@@ -153,3 +160,14 @@ module _ (f : ℕ → Bool) (s : List ℕ) (i : ℕ) (x : Bool) (inv : allOf f (
 
     pub all-turn : not t ≡ false → allOf f (drop (i + 1) s) ≡ x
     all-turn o = rw (← e, not-false t o) at (sym all-cons ∙ inv)
+
+-- front
+module _ (s : List ℕ) (n : ℕ) where
+  pub whole : length s ≤ n → s ≡ take n s
+  whole h = sym (take-all n s h)
+
+  pub part : take (n - 0) s ≡ take n s
+  part = ap (λ (k : ℕ). take k s) (sub-zero n)
+
+  pub part-short : n < length s → length (take (n - 0) s) ≤ n
+  part-short h = omega (arith, ap length part, length-take-le n s (omega arith))

@@ -1,17 +1,17 @@
-// Byte strings in lent memory: written from a place on, and compared.
+// Byte strings in lent memory: written from a place on, compared, and their front.
 ghost use mathlib.Core.Path.{_≡_};
 ghost use mathlib.Core.List.{[], _∷_};
 ghost use Prim.Native.Nat.{_+_, _≤_, _<_};
-ghost use lib.ListN.{length};
+ghost use lib.ListN.{length, take};
 ghost use Rattle.octets.specs.Wrote.{Wrote};
 ghost use Rattle.octets.specs.Strings.{sameBytes};
 
 // Writes one byte, and answers the place after it.
-pub fn put_byte(dst: &mut [u8], at: usize, b: u8) -> usize
+pub fn put_byte(dst: &mut [u8], at: usize, byte: u8) -> usize
     requires { ⌜ at < length (now dst) ⌝ }
-    ensures { λ r. ⌜ Wrote (now (dst .entry)) at (b ∷ []) (now (dst .exit)) r ⌝ }
+    ensures { λ r. ⌜ Wrote (now (dst .entry)) at (byte ∷ []) (now (dst .exit)) r ⌝ }
 {
-    dst[at] = b;
+    dst[at] = byte;
     at + 1
 }
 
@@ -31,18 +31,29 @@ pub fn put(dst: &mut [u8], at: usize, src: &[u8]) -> usize
 }
 
 // Whether two byte strings are the same.
-pub fn same_bytes(a: &[u8], b: &[u8]) -> bool
-    ensures { λ r. ⌜ r ≡ sameBytes (now (a .entry)) (now (b .entry)) ⌝ }
+pub fn same_bytes(left: &[u8], right: &[u8]) -> bool
+    ensures { λ r. ⌜ r ≡ sameBytes (now (left .entry)) (now (right .entry)) ⌝ }
 {
-    if a.len() != b.len() {
+    if left.len() != right.len() {
         return false;
     }
     let mut i = 0;
-    while i < a.len() {
-        if a[i] != b[i] {
+    while i < left.len() {
+        if left[i] != right[i] {
             return false;
         }
         i += 1;
     }
     true
+}
+
+// The first bytes up to a count, or all where there are fewer.
+pub fn front<'a>(bytes: &'a [u8], count: usize) -> &'a [u8]
+    ensures { λ t. ⌜ now t ≡ take count (now (bytes .entry)) ⌝ }
+    ensures short { λ t. ⌜ length (now t) ≤ count ⌝ }
+{
+    if bytes.len() <= count {
+        return bytes;
+    }
+    &bytes[0..count]
 }

@@ -1,6 +1,6 @@
 -- What fits a pattern.
 use mathlib.Core.Path.{_≡_, refl, sym, ap, _∙_}
-use mathlib.Core.Bool.{Bool, true, false, _&&_, _||_}
+use mathlib.Core.Bool.{Bool, true, false, and-true, and-assoc, _&&_, _||_}
 use mathlib.Core.List.{List, [], _∷_, _++_}
 use Prim.Native.Nat.{ℕ, zero, suc, _+_, _≤_, _<_}
 use native.Mathlib.Numerals.{add-one}
@@ -64,14 +64,10 @@ fits-front (x ∷ p) [] = refl
 fits-front (x ∷ p) (b ∷ s) = rw (fits-front p s) refl
 
 -- one pattern after another
-assoc : (a b c : Bool) → ((a && b) && c) ≡ (a && (b && c))
-assoc true b c = refl
-assoc false b c = refl
-
 pub fits-append : (p q s : List ℕ) → fits (p ++ q) s ≡ (fits p s && fits q (drop (length p) s))
 fits-append [] q s = refl
 fits-append (x ∷ p) q [] = refl
-fits-append (x ∷ p) q (b ∷ s) = rw (fits-append p q s) (sym (assoc (fitsByte x b) (fits p s) (fits q (drop (length p) s))))
+fits-append (x ∷ p) q (b ∷ s) = rw (fits-append p q s) (sym (and-assoc (fitsByte x b) (fits p s) (fits q (drop (length p) s))))
 
 -- the function fits: what was compared so far fits and what is left does, where the whole does, x
 pub fits-whole : (p s : List ℕ) (at : ℕ) → (true && fits (drop 0 p) (drop (at + 0) s)) ≡ fits p (drop at s)
@@ -82,13 +78,9 @@ module _ (p s : List ℕ) (at i : ℕ) (good x : Bool) (inv : (good && fits (dro
   fits-turn l h t e =
       let j : at + (i + 1) ≡ suc (at + i) = omega arith in
       let c : fits (drop i p) (drop (at + i) s) ≡ (t && fits (drop (i + 1) p) (drop (at + (i + 1)) s)) = rw (drop-cons p i 0 h, drop-cons s (at + i) 0 (omega arith), j, add-one i, e) refl in
-      assoc good t _ ∙ ap (λ (b : Bool). good && b) (sym c) ∙ inv
+      and-assoc good t _ ∙ ap (λ (b : Bool). good && b) (sym c) ∙ inv
 
   pub fits-ended : length p ≤ i → good ≡ x
   fits-ended h =
       let d : drop i p ≡ [] = drop-of-length-le p {i = i} h in
-      and-true good ∙ ap (λ (l : List ℕ). good && fits l (drop (at + i) s)) (sym d) ∙ inv
-    where
-      and-true : (b : Bool) → b ≡ (b && true)
-      and-true true = refl
-      and-true false = refl
+      sym (and-true good) ∙ ap (λ (l : List ℕ). good && fits l (drop (at + i) s)) (sym d) ∙ inv

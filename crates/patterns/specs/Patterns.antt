@@ -6,7 +6,8 @@ use lib.Dec.{eqb, leb}
 use Rattle.text.specs.Classes.{within, isOf}
 use Rattle.text.specs.declared.Class.the-variants.{Hexadecimal}
 
--- the byte b fits the byte p of a pattern: a digit (48 to 57) stands for itself and the smaller ones, F (70) for every hexadecimal digit, any other byte for itself
+-- the byte b fits the byte p of a pattern: a digit (48 to 57) stands for itself and the smaller ones, F (70) for
+-- every hexadecimal digit, any other byte for itself
 unfoldable pub fitsByte : ℕ → ℕ → Bool
 fitsByte p b = eqb p b || ((leb p 57 && within b 48 p) || (eqb p 70 && isOf Hexadecimal b))
 

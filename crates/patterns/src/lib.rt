@@ -8,20 +8,21 @@ ghost use Rattle.patterns.specs.Patterns.{fitsByte, fits};
 fn fits_byte(p: u8, b: u8) -> bool
     ensures { λ r. ⌜ r ≡ fitsByte p b ⌝ }
 {
-    let smaller = (p <= 57) & ((48 <= b) & (b <= p));
-    let hexadecimal = ((48 <= b) & (b <= 57)) | ((65 <= b) & (b <= 70));
-    (p == b) | (smaller | ((p == 70) & hexadecimal))
+    let smaller = (p <= b'9') & ((b'0' <= b) & (b <= p));
+    let hexadecimal = ((b'0' <= b) & (b <= b'9')) | ((b'A' <= b) & (b <= b'F'));
+    (p == b) | (smaller | ((p == b'F') & hexadecimal))
 }
 
-// Whether what stands in s from a place on fits a pattern. No byte ends the loop, so that many are compared at a time.
-pub fn fits(s: &[u8], at: usize, pattern: &[u8]) -> bool
-    requires { ⌜ at + length (now pattern) ≤ length (now s) ⌝ }
-    ensures { λ r. ⌜ r ≡ fits (now (pattern .entry)) (drop at (now (s .entry))) ⌝ }
+// Whether what stands in the bytes from a place on fits a pattern. No byte ends the loop, so that many are compared
+// at a time.
+pub fn fits(bytes: &[u8], at: usize, pattern: &[u8]) -> bool
+    requires { ⌜ at + length (now pattern) ≤ length (now bytes) ⌝ }
+    ensures { λ r. ⌜ r ≡ fits (now (pattern .entry)) (drop at (now (bytes .entry))) ⌝ }
 {
     let mut good = true;
     let mut i = 0;
     while i < pattern.len() {
-        good = good & fits_byte(pattern[i], s[at + i]);
+        good = good & fits_byte(pattern[i], bytes[at + i]);
         i += 1;
     }
     good

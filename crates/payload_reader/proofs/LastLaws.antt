@@ -8,7 +8,7 @@ use lib.ListN.{length, drop}
 use Rattle.octets.proofs.Flags.{nope}
 use Rattle.octets.proofs.Below.{below-or}
 use Rattle.fields.specs.Values.{Value, number, string, date, octets, bad, valuesOf, first, valueAt, nextAt}
-use Rattle.fields.specs.Bounds.{meant}
+use Rattle.fields.specs.Bounds.{fieldValue}
 use Rattle.fields.specs.declared.Field.{Field}
 use Rattle.payload_reader.specs.Reading.{alone, lastAt}
 use Rattle.payload_reader.proofs.ValueLaws.{values-next, next-within, values-ended, values-left}
@@ -54,7 +54,7 @@ module _ (s : List ℕ) (at n : ℕ) (p : n ≡ nextAt s at) where
   pub more-after : (n ≡ length s → ⊥) → bad ≡ lastAt s at
   more-after d = sym (⊎-elim (bad-last s at) (λ o. not-last s at n p o d) (bad-or (valueAt s at)))
 
-  pub none-after : (f : Field) → meant s f ≡ valueAt s at → n ≡ length s → meant s f ≡ lastAt s at
+  pub none-after : (f : Field) → fieldValue s f ≡ valueAt s at → n ≡ length s → fieldValue s f ≡ lastAt s at
   none-after f e d = ⊎-elim (λ b. e ∙ b ∙ sym (bad-last s at b)) (λ o. e ∙ sym (last-there s at n p o d)) (bad-or (valueAt s at))
 
 -- only_field

@@ -12,7 +12,7 @@ use denote.Enum.Laws as EL
 use denote.Struct.Laws as LL
 use denote.Struct.Rest.{all-own, ownAt, rest, own-open, own-out, own-shut}
 use Rattle.walks.proofs.Walk.{calls-own}
-use Rattle.fields.specs.Bounds.{meant, Within}
+use Rattle.fields.specs.Bounds.{fieldValue, Within}
 use Rattle.fields.specs.declared.Field.{Field}
 use Rattle.fields.proofs.Field as field
 use Rattle.fields.proofs.Field.Laws as field′
@@ -42,10 +42,10 @@ field-typed 𝓤 H A W f is = EL.lawful field.the-type field′.the-laws 𝓤 H 
 
 -- what is ensured of the next field of a reader d, or of its last one
 abbrev pub IsNext : Reader → Field → Type 0
-IsNext d f = meant (d .payload .now) f ≡ nextIn d
+IsNext d f = fieldValue (d .payload .now) f ≡ nextIn d
 
 abbrev pub IsLast : Reader → Field → Type 0
-IsLast d f = meant (d .payload .now) f ≡ lastIn d
+IsLast d f = fieldValue (d .payload .now) f ≡ lastIn d
 
 abbrev pub Inside : Reader → Field → Type 0
 Inside d f = Within (length (d .payload .now)) f

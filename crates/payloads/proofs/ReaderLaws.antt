@@ -13,7 +13,7 @@ use borrow.Author.Tests.{eq-eqb, ne-eqb}
 use Rattle.octets.proofs.Flags.{nope}
 use Rattle.octets.proofs.Below.{below-or}
 use Rattle.fields.specs.Values.{Value, number, string, date, octets, bad, valuesOf, first, valueAt, nextAt}
-use Rattle.fields.specs.Bounds.{meant}
+use Rattle.fields.specs.Bounds.{fieldValue}
 use Rattle.fields.specs.declared.Field.{Field}
 use Rattle.fields.specs.declared.Field.the-variants as code
 use Rattle.fields.proofs.Field.{the-type}
@@ -69,7 +69,7 @@ is-number n k = ⊎-elim (λ (p : 0 ≡ 1). omega arith) (λ l. ⊎-elim (λ (p 
 
 -- an only field, and a first field, of another type
 module _ (s : List ℕ) where
-  not-text : (f : Field) (vs : List Value) → meant s f ≡ alone vs → NotText f → areFieldsOf KF vs ≡ false
+  not-text : (f : Field) (vs : List Value) → fieldValue s f ≡ alone vs → NotText f → areFieldsOf KF vs ≡ false
   unfolding areFieldsOf
   not-text f [] e k = refl
   not-text f (v ∷ w ∷ vs) e k = followed v w vs .0
@@ -79,7 +79,7 @@ module _ (s : List ℕ) where
   not-text (code.Octets a b) (v ∷ []) e k = rw (← e)
   not-text code.Bad (v ∷ []) e k = rw (← e)
 
-  not-number : (f : Field) (vs : List Value) → meant s f ≡ alone vs → NotNumber f → areFieldsOf KD vs ≡ false
+  not-number : (f : Field) (vs : List Value) → fieldValue s f ≡ alone vs → NotNumber f → areFieldsOf KD vs ≡ false
   unfolding areFieldsOf
   not-number f [] e k = refl
   not-number f (v ∷ w ∷ vs) e k = followed v w vs .1
@@ -89,7 +89,7 @@ module _ (s : List ℕ) where
   not-number (code.Octets a b) (v ∷ []) e k = rw (← e)
   not-number code.Bad (v ∷ []) e k = rw (← e)
 
-  not-first : (f : Field) (vs : List Value) → meant s f ≡ first vs → NotText f → areFieldsOf KL vs ≡ false
+  not-first : (f : Field) (vs : List Value) → fieldValue s f ≡ first vs → NotText f → areFieldsOf KL vs ≡ false
   unfolding areFieldsOf
   not-first f [] e k = refl
   not-first (code.Number n) (v ∷ vs) e k = rw (← e)
@@ -99,25 +99,25 @@ module _ (s : List ℕ) where
   not-first code.Bad (v ∷ vs) e k = rw (← e)
 
 -- one_text
-module _ (s : List ℕ) (f : Field) (e : meant s f ≡ alone (valuesOf s)) where
+module _ (s : List ℕ) (f : Field) (e : fieldValue s f ≡ alone (valuesOf s)) where
   pub no-text : NotText f → none ≡ textIn (valuesOf s)
   no-text k = rw (not-text s f (valuesOf s) e k)
 
   pub text-alone : (a b : ℕ) → f ≡ code.Text a b → some (take (b - a) (drop a s)) ≡ textIn (valuesOf s)
   unfolding areFieldsOf
-  text-alone a b q = rw (sole (string (take (b - a) (drop a s))) (valuesOf s) (ap (meant s) (sym q) ∙ e) (λ h. nope (cc)))
+  text-alone a b q = rw (sole (string (take (b - a) (drop a s))) (valuesOf s) (ap (fieldValue s) (sym q) ∙ e) (λ h. nope (cc)))
 
 -- one_number
-module _ (s : List ℕ) (f : Field) (e : meant s f ≡ alone (valuesOf s)) where
+module _ (s : List ℕ) (f : Field) (e : fieldValue s f ≡ alone (valuesOf s)) where
   pub no-number : NotNumber f → none ≡ numberIn (valuesOf s)
   no-number k = rw (not-number s f (valuesOf s) e k)
 
   pub number-alone : (n : ℕ) → f ≡ code.Number n → some n ≡ numberIn (valuesOf s)
   unfolding areFieldsOf
-  number-alone n q = rw (sole (number n) (valuesOf s) (ap (meant s) (sym q) ∙ e) (λ h. nope (cc)))
+  number-alone n q = rw (sole (number n) (valuesOf s) (ap (fieldValue s) (sym q) ∙ e) (λ h. nope (cc)))
 
 -- two_texts
-module _ (s : List ℕ) (f : Field) (e : meant s f ≡ valueAt s 0) where
+module _ (s : List ℕ) (f : Field) (e : fieldValue s f ≡ valueAt s 0) where
   module _ (k : NotText f) where
     pub no-first : none ≡ firstTextIn (valuesOf s)
     unfolding valueAt
@@ -127,13 +127,13 @@ module _ (s : List ℕ) (f : Field) (e : meant s f ≡ valueAt s 0) where
     unfolding valueAt
     no-first-second = rw (not-first s f (valuesOf s) e k)
 
-  module _ (a b : ℕ) (q : f ≡ code.Text a b) (g : Field) (r : meant s g ≡ lastAt s (nextAt s 0)) where
+  module _ (a b : ℕ) (q : f ≡ code.Text a b) (g : Field) (r : fieldValue s g ≡ lastAt s (nextAt s 0)) where
     abbrev left : List Value
     left = valuesOf (drop (nextAt s 0) s)
 
     -- the first, and those after it
     parted : valuesOf s ≡ string (take (b - a) (drop a s)) ∷ left
-    parted = let p : string (take (b - a) (drop a s)) ≡ valueAt s 0 = ap (meant s) (sym q) ∙ e in values-next s 0 (λ h. nope (cc)) ∙ rw (← p)
+    parted = let p : string (take (b - a) (drop a s)) ≡ valueAt s 0 = ap (fieldValue s) (sym q) ∙ e in values-next s 0 (λ h. nope (cc)) ∙ rw (← p)
 
     of-rest : areFieldsOf KL (valuesOf s) ≡ areFieldsOf KF left
     unfolding areFieldsOf
@@ -153,7 +153,7 @@ module _ (s : List ℕ) (f : Field) (e : meant s f ≡ valueAt s 0) where
     module _ (c d : ℕ) (h : g ≡ code.Text c d) where
       both : valuesOf s ≡ string (take (b - a) (drop a s)) ∷ string (take (d - c) (drop c s)) ∷ []
       unfolding lastAt
-      both = parted ∙ rw (sole (string (take (d - c) (drop c s))) left (ap (meant s) (sym h) ∙ r) (λ o. nope (cc)))
+      both = parted ∙ rw (sole (string (take (d - c) (drop c s))) left (ap (fieldValue s) (sym h) ∙ r) (λ o. nope (cc)))
 
       pub first-of-two : some (take (b - a) (drop a s)) ≡ firstTextIn (valuesOf s)
       unfolding areFieldsOf

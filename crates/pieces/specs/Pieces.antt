@@ -1,5 +1,5 @@
--- A byte string cut at a delimiter that ends each piece: PTVD fields end in ~ (001 Table 6), the fields of a record in its delimiter (003 clause 5.7),
--- the entries of a card in ; (document 01, Cards).
+-- A byte string cut at a delimiter that ends each piece: PTVD fields end in ~ (001 Table 6), the fields of a record
+-- in its delimiter (003 clause 5.7), the entries of a card in ; (document 01, Cards).
 use Prim.Native.Nat.{ℕ}
 use mathlib.Core.Bool.{Bool, true, cond}
 use mathlib.Core.List.{List, [], _∷_, _++_}

@@ -6,44 +6,44 @@ ghost use lib.ListN.{length, drop, getD};
 ghost use Rattle.octets.specs.Strings.{isNot, run};
 ghost use Rattle.pieces.specs.Pieces.{pieces, isEnded};
 
-// Where the piece that starts at a place ends: at its delimiter, or at the end of s.
-pub fn piece_end(s: &[u8], at: usize, delimiter: u8) -> usize
-    requires { ⌜ at ≤ length (now s) ⌝ }
-    ensures { λ r. ⌜ r ≡ at + run (isNot delimiter) (drop at (now (s .entry))) ⌝ }
-    ensures within { λ r. ⌜ r ≤ length (now (s .entry)) ⌝ }
+// Where the piece that starts at a place ends: at its delimiter, or at the end of the bytes.
+pub fn piece_end(bytes: &[u8], at: usize, delimiter: u8) -> usize
+    requires { ⌜ at ≤ length (now bytes) ⌝ }
+    ensures { λ r. ⌜ r ≡ at + run (isNot delimiter) (drop at (now (bytes .entry))) ⌝ }
+    ensures within { λ r. ⌜ r ≤ length (now (bytes .entry)) ⌝ }
 {
-    at + spans::until(&s[at..], delimiter)
+    at + spans::until(&bytes[at..], delimiter)
 }
 
-// The k-th piece, counted from 0, and nothing where there are not so many.
-pub fn piece<'a>(s: &'a [u8], delimiter: u8, k: usize) -> &'a [u8]
-    ensures { λ r. ⌜ now r ≡ getD (pieces delimiter (now (s .entry))) k [] ⌝ }
+// The piece of an index, counted from 0, and nothing where there are not so many.
+pub fn piece<'a>(bytes: &'a [u8], delimiter: u8, index: usize) -> &'a [u8]
+    ensures { λ r. ⌜ now r ≡ getD (pieces delimiter (now (bytes .entry))) index [] ⌝ }
 {
     let mut at = 0;
-    let mut left = k;
-    while at < s.len() {
-        let e = piece_end(s, at, delimiter);
-        if s.len() <= e {
-            return &s[0..0];
+    let mut left = index;
+    while at < bytes.len() {
+        let e = piece_end(bytes, at, delimiter);
+        if bytes.len() <= e {
+            return &bytes[0..0];
         }
         if left == 0 {
-            return &s[at..e];
+            return &bytes[at..e];
         }
         left -= 1;
         at = e + 1;
     }
-    &s[0..0]
+    &bytes[0..0]
 }
 
 // How many pieces there are.
-pub fn piece_count(s: &[u8], delimiter: u8) -> usize
-    ensures { λ r. ⌜ r ≡ length (pieces delimiter (now (s .entry))) ⌝ }
+pub fn piece_count(bytes: &[u8], delimiter: u8) -> usize
+    ensures { λ r. ⌜ r ≡ length (pieces delimiter (now (bytes .entry))) ⌝ }
 {
     let mut at = 0;
     let mut n: usize = 0;
-    while at < s.len() {
-        let e = piece_end(s, at, delimiter);
-        if s.len() <= e {
+    while at < bytes.len() {
+        let e = piece_end(bytes, at, delimiter);
+        if bytes.len() <= e {
             return n;
         }
         n += 1;
@@ -53,13 +53,13 @@ pub fn piece_count(s: &[u8], delimiter: u8) -> usize
 }
 
 // Whether nothing follows the last delimiter.
-pub fn is_ended(s: &[u8], delimiter: u8) -> bool
-    ensures { λ r. ⌜ r ≡ isEnded delimiter (now (s .entry)) ⌝ }
+pub fn is_ended(bytes: &[u8], delimiter: u8) -> bool
+    ensures { λ r. ⌜ r ≡ isEnded delimiter (now (bytes .entry)) ⌝ }
 {
-    if s.len() == 0 {
+    if bytes.len() == 0 {
         return true;
     }
-    if s[s.len() - 1] != delimiter {
+    if bytes[bytes.len() - 1] != delimiter {
         return false;
     }
     true

@@ -27,7 +27,7 @@ four-written x a b c d p q s t = then-fields x a (b ∷ c ∷ d ∷ []) p (then-
 
 -- the check value of type and fields behind them makes the record
 pub record-closed : {d e f : List ℕ} {a b c : ℕ} (x : ℕ) (kind : List ℕ) (fs : List (List ℕ)) → Wrote d a (joined x (kind ∷ fs)) e b → b ≤ length d
-    → Wrote e b (sumDigits Modbus (take (b - a) (drop a e))) f c → Wrote d a (recordBytes x kind fs) f c
+    → Wrote e b (sumDigits Modbus (take (b - a) (drop a e))) f c → Wrote d a (recordBytes kind x fs) f c
 unfolding recordBytes
 record-closed x kind fs p h q = then p (rw (written-part p h) at q)
 
@@ -35,5 +35,5 @@ record-closed x kind fs p h q = then p (rw (written-part p h) at q)
 pub record-written : {d0 d1 d2 e : List ℕ} {at o to r : ℕ} (x : ℕ) (kind a b c d : List ℕ) → at + length kind + length a + length b + length c + length d + 9 ≤ length d0
     → Wrote d0 at (joined x (kind ∷ [])) d1 o → o ≡ at + length kind + 1
     → Wrote d1 o (joined x (a ∷ b ∷ c ∷ d ∷ [])) d2 to → to ≡ o + length a + length b + length c + length d + 4
-    → Wrote d2 to (sumDigits Modbus (take (to - at) (drop at d2))) e r → Wrote d0 at (recordBytes x kind (a ∷ b ∷ c ∷ d ∷ [])) e r
+    → Wrote d2 to (sumDigits Modbus (take (to - at) (drop at d2))) e r → Wrote d0 at (recordBytes kind x (a ∷ b ∷ c ∷ d ∷ [])) e r
 record-written x kind a b c d h p m q n w = record-closed x kind (a ∷ b ∷ c ∷ d ∷ []) (then-fields x kind (a ∷ b ∷ c ∷ d ∷ []) p q) (omega arith) w

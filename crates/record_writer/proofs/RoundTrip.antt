@@ -1,14 +1,14 @@
 -- What is built is parsed, field by field, and only what could be built is parsed.
 use mathlib.Core.Path.{_≡_, refl, sym, ap, _∙_}
 use mathlib.Core.Bool.{Bool, true, false, _&&_}
-use mathlib.Core.List.{List, [], _∷_, _++_}
-use Prim.Native.Nat.{ℕ, _+_, _-_}
+use mathlib.Core.List.{List, [], _∷_, _++_, append-assoc}
+use Prim.Native.Nat.{ℕ, _+_, _-_, _≤_}
 use native.Mathlib.Numerals.{add-one}
 use native.Mathlib.Omega.{arith}
-use lib.Dec.{eqb}
-use lib.ListN.{length, getD, drop, length-append}
-use lib.Seq.{take-at}
-use borrow.Author.Tests.{eq-eqb, eqb-true}
+use lib.Dec.{leb, eqb}
+use lib.ListN.{length, getD, take, drop, length-append, take-append-drop}
+use lib.Seq.{take-at, take-take}
+use borrow.Author.Tests.{eq-eqb, le-leb, leb-true}
 use Rattle.octets.specs.Strings.{allOf, isNot, sameBytes}
 use Rattle.pieces.specs.Pieces.{pieces, isEnded, joined}
 use Rattle.octets.proofs.Flags.{and-first, and-second, and-both}
@@ -75,76 +75,93 @@ module _ (d : ℕ) (p : isOf Printable d ≡ true) (h : isOf Hexadecimal d ≡ f
   built-printable : areAll Printable (joined d (kind ∷ fields)) ≡ true
   built-printable = joined-printable d p (kind ∷ fields) e
 
-  built-pieces : pieces d (recordBytes d kind fields) ≡ kind ∷ fields
+  built-pieces : pieces d (recordBytes kind d fields) ≡ kind ∷ fields
   unfolding recordBytes
   built-pieces =
       let b = joined d (kind ∷ fields) in
       pieces-behind d b (sumDigits Modbus b) (digits-plain b built-printable d h) ∙ joined-pieces d (kind ∷ fields) e
 
-  pub built-parses : isRecord d kind (length fields) (recordBytes d kind fields) ≡ true
-  unfolding isRecord recordBytes field areAll
+  -- it starts with the type and the delimiter, which more bytes follow than the digits
+  built-start : take (length kind + 1) (recordBytes kind d fields) ≡ kind ++ (d ∷ [])
+  unfolding recordBytes
+  built-start =
+      let b = joined d (kind ∷ fields) in
+      let t = sumDigits Modbus b in
+      let e : b ++ t ≡ (kind ++ (d ∷ [])) ++ (joined d fields ++ t) = rw (append-assoc kind (d ∷ joined d fields) t, append-assoc kind (d ∷ []) (joined d fields ++ t)) in
+      rw e (take-at (kind ++ (d ∷ [])) (joined d fields ++ t) (length kind + 1) (length-append kind (d ∷ [])))
+
+  pub built-parses : isRecord kind d (length fields) (recordBytes kind d fields) ≡ true
+  unfolding isRecord recordBytes areAll sumDigits
   built-parses =
       let b = joined d (kind ∷ fields) in
       let s = b ++ sumDigits Modbus b in
-      let q : pieces d s ≡ kind ∷ fields = built-pieces in
-      let i : sameBytes (getD (pieces d s) 0 []) kind ≡ true = rw q (same-self kind) in
-      let j : endsInSum Modbus s ≡ true = sum-ends Modbus b (printable-bytes b built-printable) in
-      let k : isEnded d (bodyOf s) ≡ true = rw (body-back b) (joined-ended d (kind ∷ fields)) in
-      let l : allOf (isOf Printable) s ≡ true = all-append (isOf Printable) b (sumDigits Modbus b) built-printable (digits-printable b built-printable) in
-      let m : eqb (length (pieces d s)) (length fields + 1) ≡ true = eq-eqb (length (pieces d s)) (length fields + 1) (ap length q ∙ omega arith) in
-      rw (i, j, k, l, m)
+      let h : sameBytes (take (length kind + 1) s) (kind ++ (d ∷ [])) ≡ true = rw built-start (same-self (kind ++ (d ∷ []))) in
+      let n : length kind + 5 ≤ length s = omega (arith, length-append b (sumDigits Modbus b), length-append kind (d ∷ joined d fields)) in
+      let i : bodyOf s ≡ b = body-back b in
+      let j : endsInSum Modbus s ≡ true = sum-ends Modbus b in
+      let k : isEnded d b ≡ true = joined-ended d (kind ∷ fields) in
+      let l : allOf (isOf Printable) b ≡ true = built-printable in
+      let m : eqb (length (pieces d b)) (length fields + 1) ≡ true = eq-eqb (length (pieces d b)) (length fields + 1) (ap length (joined-pieces d (kind ∷ fields) e) ∙ omega arith) in
+      rw (h, le-leb (length kind + 5) (length s) n, i, j, k, l, m)
 
-  pub built-type : field d 0 (recordBytes d kind fields) ≡ kind
+  pub built-type : field d 0 (recordBytes kind d fields) ≡ kind
   unfolding field
   built-type = rw built-pieces
 
-  pub built-field : (k : ℕ) → field d (k + 1) (recordBytes d kind fields) ≡ getD fields k []
+  pub built-field : (k : ℕ) → field d (k + 1) (recordBytes kind d fields) ≡ getD fields k []
   unfolding field
   built-field k = rw (built-pieces, add-one)
 
--- AND ONLY THAT: what is parsed is what would be built of its type and its fields
-module _ (d n : ℕ) (h : isOf Hexadecimal d ≡ false) (kind s : List ℕ) (e : isRecord d kind n s ≡ true) where
-  after-type : (endsInSum Modbus s && (isEnded d (bodyOf s) && (areAll Printable s && eqb (length (pieces d s)) (n + 1)))) ≡ true
+-- AND ONLY THAT: what is parsed is what would be built of its type and its fields; the type holds no delimiter (003 clause 5.8)
+module _ (d n : ℕ) (h : isOf Hexadecimal d ≡ false) (kind s : List ℕ) (c : allOf (isNot d) kind ≡ true) (e : isRecord kind d n s ≡ true) where
+  abbrev fielded : Bool
+  fielded = isEnded d (bodyOf s) && (areAll Printable (bodyOf s) && eqb (length (pieces d (bodyOf s))) (n + 1))
+
+  its-start : take (length kind + 1) s ≡ kind ++ (d ∷ [])
   unfolding isRecord
-  after-type = and-second (sameBytes (field d 0 s) kind) _ e
+  its-start = same-equal (take (length kind + 1) s) (kind ++ (d ∷ [])) (and-first (sameBytes (take (length kind + 1) s) (kind ++ (d ∷ []))) _ e)
 
-  after-sum : (isEnded d (bodyOf s) && (areAll Printable s && eqb (length (pieces d s)) (n + 1))) ≡ true
-  after-sum = and-second (endsInSum Modbus s) _ after-type
-
-  after-end : (areAll Printable s && eqb (length (pieces d s)) (n + 1)) ≡ true
-  after-end = and-second (isEnded d (bodyOf s)) _ after-sum
-
-  its-type : field d 0 s ≡ kind
+  after-type : (leb (length kind + 5) (length s) && (endsInSum Modbus s && fielded)) ≡ true
   unfolding isRecord
-  its-type = same-equal (field d 0 s) kind (and-first (sameBytes (field d 0 s) kind) _ e)
+  after-type = and-second (sameBytes (take (length kind + 1) s) (kind ++ (d ∷ []))) _ e
 
-  its-count : length (pieces d s) ≡ n + 1
-  its-count = eqb-true (length (pieces d s)) (n + 1) (and-second (areAll Printable s) _ after-end)
+  after-length : (endsInSum Modbus s && fielded) ≡ true
+  after-length = and-second (leb (length kind + 5) (length s)) _ after-type
+
+  its-length : length kind + 5 ≤ length s
+  its-length = leb-true (length kind + 5) (length s) (and-first (leb (length kind + 5) (length s)) _ after-type)
+
+  its-fields : fielded ≡ true
+  its-fields = and-second (endsInSum Modbus s) _ after-length
 
   its-ended : isEnded d (bodyOf s) ≡ true
-  its-ended = and-first (isEnded d (bodyOf s)) (areAll Printable s && eqb (length (pieces d s)) (n + 1)) after-sum
+  its-ended = and-first (isEnded d (bodyOf s)) _ its-fields
+
+  its-printable : areAll Printable (bodyOf s) ≡ true
+  its-printable = and-first (areAll Printable (bodyOf s)) _ (and-second (isEnded d (bodyOf s)) _ its-fields)
 
   pub its-digits : s ≡ bodyOf s ++ sumDigits Modbus (bodyOf s)
   unfolding bodyOf
-  its-digits = sum-only Modbus s (and-first (endsInSum Modbus s) (isEnded d (bodyOf s) && (areAll Printable s && eqb (length (pieces d s)) (n + 1))) after-type)
-
-  its-printable : areAll Printable (bodyOf s) ≡ true
-  unfolding areAll
-  its-printable =
-      all-front (isOf Printable) (bodyOf s) (sumDigits Modbus (bodyOf s)) (rw (← its-digits) (and-first (areAll Printable s) (eqb (length (pieces d s)) (n + 1)) after-end))
+  its-digits = sum-only Modbus s (and-first (endsInSum Modbus s) _ after-length)
 
   -- the digits are no field
   pub its-pieces : pieces d s ≡ pieces d (bodyOf s)
   its-pieces = ap (pieces d) its-digits ∙ pieces-behind d (bodyOf s) (sumDigits Modbus (bodyOf s)) (digits-plain (bodyOf s) its-printable d h)
 
-  its-body : joined d (kind ∷ drop 1 (pieces d s)) ≡ bodyOf s
-  unfolding field
-  its-body = ap (joined d) (sym (first (pieces d s) its-type its-count)) ∙ ap (joined d) its-pieces ∙ pieces-joined d (bodyOf s) its-ended
-    where
-      first : (ps : List (List ℕ)) → getD ps 0 [] ≡ kind → length ps ≡ n + 1 → ps ≡ kind ∷ drop 1 ps
-      first [] i j = absurd (omega arith)
-      first (p ∷ ps) i j = ap (λ (l : List ℕ). l ∷ ps) i
+  -- the type is the first piece
+  its-type : pieces d (bodyOf s) ≡ kind ∷ drop 1 (pieces d (bodyOf s))
+  unfolding bodyOf
+  its-type =
+      let m = length kind + 1 in
+      let b = take (length s - 4) s in
+      let i : take m b ≡ kind ++ (d ∷ []) = take-take m (length s - 4) s (omega (arith, its-length)) ∙ its-start in
+      let j : b ≡ kind ++ (d ∷ drop m b) = sym (take-append-drop m b) ∙ ap (λ (l : List ℕ). l ++ drop m b) i ∙ append-assoc kind (d ∷ []) (drop m b) in
+      let k : pieces d b ≡ kind ∷ pieces d (drop m b) = ap (pieces d) j ∙ pieces-cons d kind (drop m b) c in
+      k ∙ ap (λ (l : List (List ℕ)). kind ∷ drop 1 l) (sym k)
 
-  pub parsed-built : s ≡ recordBytes d kind (drop 1 (pieces d s))
+  its-body : joined d (kind ∷ drop 1 (pieces d s)) ≡ bodyOf s
+  its-body = rw its-pieces (ap (joined d) (sym its-type) ∙ pieces-joined d (bodyOf s) its-ended)
+
+  pub parsed-built : s ≡ recordBytes kind d (drop 1 (pieces d s))
   unfolding recordBytes
   parsed-built = rw its-body its-digits

@@ -5,6 +5,8 @@ use Rattle.pieces.specs.Pieces.{joined}
 use Rattle.checksum.specs.Checksum.{sumDigits}
 use Rattle.checksum.specs.declared.Kind.the-variants.{Modbus}
 
--- BUILD-RECORD (003 clause 5.8.1): type and fields, each with its delimiter (DFCONCAT, clause 5.7.1), then the check value of all that
-unfoldable pub recordBytes : ℕ → List ℕ → List (List ℕ) → List ℕ
-recordBytes delimiter kind fields = joined delimiter (kind ∷ fields) ++ sumDigits Modbus (joined delimiter (kind ∷ fields))
+-- BUILD-RECORD(rectype, delim, n, I1 .. In) (003 clause 5.8.1): R || BASE16(C), where R is DFCONCAT (clause 5.7.1) of
+-- the type and the fields, each with its delimiter
+unfoldable pub recordBytes : List ℕ → ℕ → List (List ℕ) → List ℕ
+recordBytes rectype delim fields =
+    let r = joined delim (rectype ∷ fields) in r ++ sumDigits Modbus r

@@ -1,4 +1,5 @@
-// Records of delimited fields written into a lent buffer: BUILD-RECORD (003 clauses 5.7.1 and 5.8.1; document 01, "Records").
+// Records of delimited fields written into a lent buffer: BUILD-RECORD (003 clauses 5.7.1 and 5.8.1; document 01,
+// "Records").
 use checksum::Kind;
 ghost use mathlib.Core.Path.{_≡_};
 ghost use mathlib.Core.List.{[], _∷_};
@@ -11,19 +12,20 @@ ghost use Rattle.checksum.specs.declared.Kind.the-variants.{Modbus};
 ghost use Rattle.record_writer.specs.Build.{recordBytes};
 
 // Writes one field and its delimiter, and answers the place after it.
-pub fn put_field(dst: &mut [u8], at: usize, v: &[u8], delimiter: u8) -> usize
-    requires { ⌜ at + length (now v) + 1 ≤ length (now dst) ⌝ }
-    ensures { λ r. ⌜ Wrote (now (dst .entry)) at (joined delimiter (now (v .entry) ∷ [])) (now (dst .exit)) r ⌝ }
-    ensures short { λ r. ⌜ r ≡ at + length (now (v .entry)) + 1 ⌝ }
+pub fn put_field(dst: &mut [u8], at: usize, field: &[u8], delimiter: u8) -> usize
+    requires { ⌜ at + length (now field) + 1 ≤ length (now dst) ⌝ }
+    ensures { λ r. ⌜ Wrote (now (dst .entry)) at (joined delimiter (now (field .entry) ∷ [])) (now (dst .exit)) r ⌝ }
+    ensures short { λ r. ⌜ r ≡ at + length (now (field .entry)) + 1 ⌝ }
 {
-    let o = octets::put(dst, at, v);
+    let o = octets::put(dst, at, field);
     octets::put_byte(dst, o, delimiter)
 }
 
 // Writes the four digits of the bytes from a place up to `to` behind them, and answers the place after the digits.
 pub fn close_record(dst: &mut [u8], from: usize, to: usize) -> usize
     requires { ⌜ (from ≤ to) × (to + 4 ≤ length (now dst)) ⌝ }
-    ensures { λ r. ⌜ Wrote (now (dst .entry)) to (sumDigits Modbus (take (to - from) (drop from (now (dst .entry))))) (now (dst .exit)) r ⌝ }
+    ensures { λ r. ⌜ Wrote (now (dst .entry)) to (sumDigits Modbus (take (to - from) (drop from (now (dst .entry)))))
+        (now (dst .exit)) r ⌝ }
     ensures short { λ r. ⌜ r ≡ to + 4 ⌝ }
 {
     checksum::put_sum(Kind::Modbus, dst, from, to)
@@ -40,8 +42,11 @@ fn put_fields4(
     d: &[u8],
 ) -> usize
     requires { ⌜ at + length (now a) + length (now b) + length (now c) + length (now d) + 4 ≤ length (now dst) ⌝ }
-    ensures { λ r. ⌜ Wrote (now (dst .entry)) at (joined delimiter (now (a .entry) ∷ now (b .entry) ∷ now (c .entry) ∷ now (d .entry) ∷ [])) (now (dst .exit)) r ⌝ }
-    ensures short { λ r. ⌜ r ≡ at + length (now (a .entry)) + length (now (b .entry)) + length (now (c .entry)) + length (now (d .entry)) + 4 ⌝ }
+    ensures { λ r. ⌜ Wrote (now (dst .entry)) at
+        (joined delimiter (now (a .entry) ∷ now (b .entry) ∷ now (c .entry) ∷ now (d .entry) ∷ []))
+        (now (dst .exit)) r ⌝ }
+    ensures short { λ r. ⌜ r ≡ at + length (now (a .entry)) + length (now (b .entry)) + length (now (c .entry))
+        + length (now (d .entry)) + 4 ⌝ }
 {
     let o1 = put_field(dst, at, a, delimiter);
     let o2 = put_field(dst, o1, b, delimiter);
@@ -53,18 +58,23 @@ fn put_fields4(
 pub fn put_record4(
     dst: &mut [u8],
     at: usize,
+    rectype: &[u8],
     delimiter: u8,
-    kind: &[u8],
-    a: &[u8],
-    b: &[u8],
-    c: &[u8],
-    d: &[u8],
+    first: &[u8],
+    second: &[u8],
+    third: &[u8],
+    fourth: &[u8],
 ) -> usize
-    requires { ⌜ at + length (now kind) + length (now a) + length (now b) + length (now c) + length (now d) + 9 ≤ length (now dst) ⌝ }
-    ensures { λ r. ⌜ Wrote (now (dst .entry)) at (recordBytes delimiter (now (kind .entry)) (now (a .entry) ∷ now (b .entry) ∷ now (c .entry) ∷ now (d .entry) ∷ [])) (now (dst .exit)) r ⌝ }
-    ensures short { λ r. ⌜ r ≡ at + length (now (kind .entry)) + length (now (a .entry)) + length (now (b .entry)) + length (now (c .entry)) + length (now (d .entry)) + 9 ⌝ }
+    requires { ⌜ at + length (now rectype) + length (now first) + length (now second) + length (now third)
+        + length (now fourth) + 9 ≤ length (now dst) ⌝ }
+    ensures { λ r. ⌜ Wrote (now (dst .entry)) at
+        (recordBytes (now (rectype .entry)) delimiter
+        (now (first .entry) ∷ now (second .entry) ∷ now (third .entry) ∷ now (fourth .entry) ∷ []))
+        (now (dst .exit)) r ⌝ }
+    ensures short { λ r. ⌜ r ≡ at + length (now (rectype .entry)) + length (now (first .entry))
+        + length (now (second .entry)) + length (now (third .entry)) + length (now (fourth .entry)) + 9 ⌝ }
 {
-    let o = put_field(dst, at, kind, delimiter);
-    let to = put_fields4(dst, o, delimiter, a, b, c, d);
+    let o = put_field(dst, at, rectype, delimiter);
+    let to = put_fields4(dst, o, delimiter, first, second, third, fourth);
     close_record(dst, at, to)
 }

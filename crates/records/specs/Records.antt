@@ -1,17 +1,19 @@
--- Records (003 clause 5.8; document 01, Records): the type and the fields, each ended by the delimiter, then four digits of the CRC-16/MODBUS of all that.
+-- Records (003 clause 5.8; document 01, Records): the type and the fields, each ended by the delimiter, then four
+-- digits of the CRC-16/MODBUS of all that.
 use Prim.Native.Nat.{ℕ, _+_, _-_}
-use mathlib.Core.Bool.{Bool, _&&_}
-use mathlib.Core.List.{List, []}
-use lib.Dec.{eqb}
+use mathlib.Core.Bool.{Bool}
+use mathlib.Core.List.{List, [], _∷_, _++_}
+use lib.Dec.{leb, eqb}
 use lib.ListN.{length, getD, take}
 use Rattle.octets.specs.Strings.{sameBytes}
+use Rattle.octets.specs.Texts.{all}
 use Rattle.pieces.specs.Pieces.{pieces, isEnded}
 use Rattle.checksum.specs.Checksum.{endsInSum}
 use Rattle.checksum.specs.declared.Kind.the-variants.{Modbus}
 use Rattle.text.specs.Classes.{areAll}
 use Rattle.text.specs.declared.Class.the-variants.{Printable}
 
--- what stands before the four digits
+-- R of the split of S into R || C': what stands before the last four characters
 unfoldable pub bodyOf : List ℕ → List ℕ
 bodyOf s = take (length s - 4) s
 
@@ -19,8 +21,14 @@ bodyOf s = take (length s - 4) s
 unfoldable pub field : ℕ → ℕ → List ℕ → List ℕ
 field delimiter k s = getD (pieces delimiter s) k []
 
--- PARSE-RECORD (003 clause 5.8.2): the type, the check value, then DFPARSE (clause 5.7.2: ended by the delimiter, printable), and n fields after the type
-unfoldable pub isRecord : ℕ → List ℕ → ℕ → List ℕ → Bool
-isRecord delimiter kind n s =
-    sameBytes (field delimiter 0 s) kind
-    && (endsInSum Modbus s && (isEnded delimiter (bodyOf s) && (areAll Printable s && eqb (length (pieces delimiter s)) (n + 1))))
+-- PARSE-RECORD(rectype, delim, n, S) (003 clause 5.8.2), with DFPARSE(delim, R) (clause 5.7.2)
+unfoldable pub isRecord : List ℕ → ℕ → ℕ → List ℕ → Bool
+isRecord rectype delim n s =
+    all (
+    sameBytes (take (length rectype + 1) s) (rectype ++ (delim ∷ []))  -- S starts with rectype || delim
+    ∷ leb (length rectype + 5) (length s)  -- OctetLen(S) is at least OctetLen(rectype) + 5
+    ∷ endsInSum Modbus s  -- C' = BASE16(C)
+    ∷ isEnded delim (bodyOf s)  -- DFPARSE: the last octet in R is delim
+    ∷ areAll Printable (bodyOf s)  -- DFPARSE: every octet in R is printable ASCII
+    ∷ eqb (length (pieces delim (bodyOf s))) (n + 1)  -- n fields after the type
+    ∷ [])

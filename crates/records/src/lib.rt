@@ -1,48 +1,84 @@
 // Records of delimited fields, parsed: PARSE-RECORD (003 clauses 5.5, 5.7.2 and 5.8.2; document 01, "Records").
 use checksum::Kind;
 ghost use mathlib.Core.Path.{_≡_};
+ghost use mathlib.Core.List.{[], _∷_, _++_};
+ghost use Prim.Native.Nat.{_+_, _<_};
+ghost use lib.Dec.{eqb};
+ghost use lib.ListN.{length, take};
+ghost use Rattle.octets.specs.Strings.{sameBytes};
+ghost use Rattle.octets.specs.Texts.{all};
+ghost use Rattle.pieces.specs.Pieces.{pieces, isEnded};
+ghost use Rattle.text.specs.Classes.{areAll};
+ghost use Rattle.text.specs.declared.Class.the-variants.{Printable};
 ghost use Rattle.records.specs.Records.{bodyOf, field, isRecord};
 
 // What stands before the four digits.
-fn body<'a>(s: &'a [u8]) -> &'a [u8]
-    ensures { λ r. ⌜ now r ≡ bodyOf (now (s .entry)) ⌝ }
+fn body<'a>(source: &'a [u8]) -> &'a [u8]
+    ensures { λ r. ⌜ now r ≡ bodyOf (now (source .entry)) ⌝ }
 {
-    if s.len() < 4 {
-        return &s[0..0];
+    if source.len() < 4 {
+        return &source[0..0];
     }
-    let n = s.len() - 4;
-    &s[..n]
+    let n = source.len() - 4;
+    &source[..n]
 }
 
-// The k-th field, counted from 1, and the type for 0; nothing where there are not so many.
-pub fn field<'a>(s: &'a [u8], delimiter: u8, k: usize) -> &'a [u8]
-    ensures { λ r. ⌜ now r ≡ field delimiter k (now (s .entry)) ⌝ }
+// The field of a number, counted from 1, and the type for 0; nothing where there are not so many.
+pub fn field<'a>(source: &'a [u8], delimiter: u8, number: usize) -> &'a [u8]
+    ensures { λ r. ⌜ now r ≡ field delimiter number (now (source .entry)) ⌝ }
 {
-    pieces::piece(s, delimiter, k)
+    pieces::piece(source, delimiter, number)
 }
 
-// Whether s is a record of a type with so many fields.
-pub fn is_record(s: &[u8], delimiter: u8, kind: &[u8], fields: usize) -> bool
-    ensures { λ r. ⌜ r ≡ isRecord delimiter (now (kind .entry)) fields (now (s .entry)) ⌝ }
+// Whether the record starts with the type and the delimiter.
+fn has_type(rectype: &[u8], delimiter: u8, source: &[u8]) -> bool
+    requires { ⌜ length (now rectype) < length (now source) ⌝ }
+    ensures { λ r. ⌜ r ≡ sameBytes (take (length (now (rectype .entry)) + 1) (now (source .entry)))
+        (now (rectype .entry) ++ (delimiter ∷ [])) ⌝ }
 {
-    if !octets::same_bytes(field(s, delimiter, 0), kind) {
+    let n = rectype.len();
+    if source[n] != delimiter {
         return false;
     }
-    if !checksum::ends_in_sum(Kind::Modbus, s) {
+    octets::same_bytes(&source[..n], rectype)
+}
+
+// Whether the body is so many fields after the type, each ended by the delimiter and printable (DFPARSE).
+fn has_fields(delimiter: u8, count: usize, body: &[u8]) -> bool
+    ensures { λ r. ⌜ r ≡ all (isEnded delimiter (now (body .entry)) ∷ areAll Printable (now (body .entry))
+        ∷ eqb (length (pieces delimiter (now (body .entry)))) (count + 1) ∷ []) ⌝ }
+{
+    if !pieces::is_ended(body, delimiter) {
         return false;
     }
-    if !pieces::is_ended(body(s), delimiter) {
+    if !text::are_printable(body) {
         return false;
     }
-    if !text::are_printable(s) {
-        return false;
-    }
-    let n = pieces::piece_count(s, delimiter);
+    let n = pieces::piece_count(body, delimiter);
     if n == 0 {
         return false;
     }
-    if n - 1 != fields {
+    if n - 1 != count {
         return false;
     }
     true
+}
+
+// Whether the record is of a type, with so many fields.
+pub fn is_record(rectype: &[u8], delimiter: u8, count: usize, source: &[u8]) -> bool
+    ensures { λ r. ⌜ r ≡ isRecord (now (rectype .entry)) delimiter count (now (source .entry)) ⌝ }
+{
+    if source.len() < 5 {
+        return false;
+    }
+    if source.len() - 5 < rectype.len() {
+        return false;
+    }
+    if !has_type(rectype, delimiter, source) {
+        return false;
+    }
+    if !checksum::ends_in_sum(Kind::Modbus, source) {
+        return false;
+    }
+    has_fields(delimiter, count, body(source))
 }

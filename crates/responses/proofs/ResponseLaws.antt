@@ -60,7 +60,7 @@ module _ (s : List ℕ) (p : areAll Printable s ≡ true) where
       let a : s ++ (d ++ (13 ∷ [])) ≡ (s ++ d) ++ (13 ∷ []) = sym (append-assoc s d (13 ∷ [])) in
       let n : length ((s ++ d) ++ (13 ∷ [])) ≡ length (s ++ d) + 1 = length-append (s ++ d) (13 ∷ []) in
       let m : length (s ++ d) + 1 - 1 ≡ length (s ++ d) = omega arith in
-      rw (a, n, m, take-at (s ++ d) (13 ∷ []) (length (s ++ d)) refl, le-leb 1 (length (s ++ d) + 1) (omega arith)) (sum-ends Arc s (printable-bytes s p))
+      rw (a, n, m, take-at (s ++ d) (13 ∷ []) (length (s ++ d)) refl, le-leb 1 (length (s ++ d) + 1) (omega arith)) (sum-ends Arc s)
 
 -- a request reads back as its header and payload
 module _ (h p : List ℕ) (n : length h ≡ 5) where

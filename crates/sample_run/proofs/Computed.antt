@@ -2,13 +2,13 @@
 use mathlib.Core.Path.{_≡_, refl, ap}
 use mathlib.Core.List.{List, [], _∷_, _++_, map}
 use Rattle.crc.specs.Crc.{crcBit, crcEight, crcByte}
-use Rattle.hexadecimal.specs.Hex.{hexDigit, hexValue, fromDigits, readHex4}
+use Rattle.hexadecimal.specs.Hex.{hexDigit}
 use Rattle.checksum.specs.Checksum.{sumDigits, endsInSum}
 use Rattle.text.specs.Classes.{isAlphanumeric, isMark, areAll}
 use Rattle.text.specs.Identifiers.{isIdentifier}
 use Rattle.decimals.specs.Decimals.{isUnpadded, isNumber}
 use Rattle.calendar.specs.Calendar.{isLeap, daysIn, isDate, isTime}
-use Rattle.timestamp.specs.Timestamps.{momentOf, timestampOf, dateTimeOf, isTimestamp, isDateTime}
+use Rattle.timestamp.specs.Timestamps.{isDateAndTime, timestampOf, dateTimeOf, isTimestamp, isDateTime}
 use Rattle.fields.specs.Bounds.{numberOf}
 use Rattle.fields.specs.Values.{isOctets, typed, valuesOf, valueAt, nextAt, contentBytes}
 use Rattle.frames.specs.Frames.{endsInReturn, isWhole, isChecked, textOf, headerOf, payloadOf, ending, framed, requestBytes, answered}
@@ -53,15 +53,15 @@ both t [] hs f k = k
 both t (g ∷ gs) hs f k = (f .0, f .1, both (g .after) gs hs (f .2) k)
 
 first-centre : Follows (emptyRows 2 2) centreA
-unfolding crcBit crcEight crcByte hexDigit hexValue fromDigits readHex4 sumDigits endsInSum isAlphanumeric isMark areAll isIdentifier isUnpadded isNumber isLeap daysIn isDate isTime momentOf timestampOf dateTimeOf isTimestamp isDateTime numberOf isOctets typed valuesOf valueAt nextAt contentBytes endsInReturn isWhole isChecked textOf headerOf payloadOf ending framed requestBytes answered headers commandOf replyBytes statusOf fieldsOf bodyOf field isRecord isAlgorithm table nameOf valueOf valueOr entryBytes fits isCardFrom isMet isIncoming defaultCard storedValue storedCard inRow isEntryOf isStored identityInForm parsesPublicKey publicKeyInForm parsesResponse responseInForm keyInForm padded trimmed isVacant attributeOf isKeyOf isUnder isRegisterSound isSameKey freeRegister filledRegister withoutSlot isZeroSlot isNamed isFilledSlot isSlotSound isSameSlot freeSlot filledSlot resetSlot isOwned areSound isIdentityRight isLoadRequestRight isWellFormed decDigits decimalBytes areFieldsOf recordIn slotIn sessionPlace storePlace slotNamed areCounts isFilled questions slotsOpened slotsWithout loadedCard cardPlace answers.refused answers.answered answerOf slotIs registerIs isAccepted emptyRows
+unfolding crcBit crcEight crcByte hexDigit sumDigits endsInSum isAlphanumeric isMark areAll isIdentifier isUnpadded isNumber isLeap daysIn isDate isTime isDateAndTime timestampOf dateTimeOf isTimestamp isDateTime numberOf isOctets typed valuesOf valueAt nextAt contentBytes endsInReturn isWhole isChecked textOf headerOf payloadOf ending framed requestBytes answered headers commandOf replyBytes statusOf fieldsOf bodyOf field isRecord isAlgorithm table nameOf valueOf valueOr entryBytes fits isCardFrom isMet isIncoming defaultCard storedValue storedCard inRow isEntryOf isStored identityInForm parsesPublicKey publicKeyInForm parsesResponse responseInForm keyInForm padded trimmed isVacant attributeOf isKeyOf isUnder isRegisterSound isSameKey freeRegister filledRegister withoutSlot isZeroSlot isNamed isFilledSlot isSlotSound isSameSlot freeSlot filledSlot resetSlot isOwned areSound isIdentityRight isLoadRequestRight isWellFormed decDigits decimalBytes areFieldsOf recordIn slotIn sessionPlace storePlace slotNamed areCounts isFilled questions slotsOpened slotsWithout loadedCard cardPlace answers.refused answers.answered answerOf slotIs registerIs isAccepted emptyRows
 first-centre = (refl, refl, (refl, refl, (refl, refl, (refl, refl, (refl, refl, tt)))))
 
 second-centre : Follows (rowsLeft (emptyRows 2 2) centreA) centreB
-unfolding crcBit crcEight crcByte hexDigit hexValue fromDigits readHex4 sumDigits endsInSum isAlphanumeric isMark areAll isIdentifier isUnpadded isNumber isLeap daysIn isDate isTime momentOf timestampOf dateTimeOf isTimestamp isDateTime numberOf isOctets typed valuesOf valueAt nextAt contentBytes endsInReturn isWhole isChecked textOf headerOf payloadOf ending framed requestBytes answered headers commandOf replyBytes statusOf fieldsOf bodyOf field isRecord isAlgorithm table nameOf valueOf valueOr entryBytes fits isCardFrom isMet isIncoming defaultCard storedValue storedCard inRow isEntryOf isStored identityInForm parsesPublicKey publicKeyInForm parsesResponse responseInForm keyInForm padded trimmed isVacant attributeOf isKeyOf isUnder isRegisterSound isSameKey freeRegister filledRegister withoutSlot isZeroSlot isNamed isFilledSlot isSlotSound isSameSlot freeSlot filledSlot resetSlot isOwned areSound isIdentityRight isLoadRequestRight isWellFormed decDigits decimalBytes areFieldsOf recordIn slotIn sessionPlace storePlace slotNamed areCounts isFilled questions slotsOpened slotsWithout loadedCard cardPlace answers.refused answers.answered answerOf slotIs registerIs isAccepted emptyRows
+unfolding crcBit crcEight crcByte hexDigit sumDigits endsInSum isAlphanumeric isMark areAll isIdentifier isUnpadded isNumber isLeap daysIn isDate isTime isDateAndTime timestampOf dateTimeOf isTimestamp isDateTime numberOf isOctets typed valuesOf valueAt nextAt contentBytes endsInReturn isWhole isChecked textOf headerOf payloadOf ending framed requestBytes answered headers commandOf replyBytes statusOf fieldsOf bodyOf field isRecord isAlgorithm table nameOf valueOf valueOr entryBytes fits isCardFrom isMet isIncoming defaultCard storedValue storedCard inRow isEntryOf isStored identityInForm parsesPublicKey publicKeyInForm parsesResponse responseInForm keyInForm padded trimmed isVacant attributeOf isKeyOf isUnder isRegisterSound isSameKey freeRegister filledRegister withoutSlot isZeroSlot isNamed isFilledSlot isSlotSound isSameSlot freeSlot filledSlot resetSlot isOwned areSound isIdentityRight isLoadRequestRight isWellFormed decDigits decimalBytes areFieldsOf recordIn slotIn sessionPlace storePlace slotNamed areCounts isFilled questions slotsOpened slotsWithout loadedCard cardPlace answers.refused answers.answered answerOf slotIs registerIs isAccepted emptyRows
 second-centre = (refl, refl, (refl, refl, (refl, refl, tt)))
 
 ends : Follows (rowsLeft (rowsLeft (emptyRows 2 2) centreA) centreB) deletions
-unfolding crcBit crcEight crcByte hexDigit hexValue fromDigits readHex4 sumDigits endsInSum isAlphanumeric isMark areAll isIdentifier isUnpadded isNumber isLeap daysIn isDate isTime momentOf timestampOf dateTimeOf isTimestamp isDateTime numberOf isOctets typed valuesOf valueAt nextAt contentBytes endsInReturn isWhole isChecked textOf headerOf payloadOf ending framed requestBytes answered headers commandOf replyBytes statusOf fieldsOf bodyOf field isRecord isAlgorithm table nameOf valueOf valueOr entryBytes fits isCardFrom isMet isIncoming defaultCard storedValue storedCard inRow isEntryOf isStored identityInForm parsesPublicKey publicKeyInForm parsesResponse responseInForm keyInForm padded trimmed isVacant attributeOf isKeyOf isUnder isRegisterSound isSameKey freeRegister filledRegister withoutSlot isZeroSlot isNamed isFilledSlot isSlotSound isSameSlot freeSlot filledSlot resetSlot isOwned areSound isIdentityRight isLoadRequestRight isWellFormed decDigits decimalBytes areFieldsOf recordIn slotIn sessionPlace storePlace slotNamed areCounts isFilled questions slotsOpened slotsWithout loadedCard cardPlace answers.refused answers.answered answerOf slotIs registerIs isAccepted emptyRows
+unfolding crcBit crcEight crcByte hexDigit sumDigits endsInSum isAlphanumeric isMark areAll isIdentifier isUnpadded isNumber isLeap daysIn isDate isTime isDateAndTime timestampOf dateTimeOf isTimestamp isDateTime numberOf isOctets typed valuesOf valueAt nextAt contentBytes endsInReturn isWhole isChecked textOf headerOf payloadOf ending framed requestBytes answered headers commandOf replyBytes statusOf fieldsOf bodyOf field isRecord isAlgorithm table nameOf valueOf valueOr entryBytes fits isCardFrom isMet isIncoming defaultCard storedValue storedCard inRow isEntryOf isStored identityInForm parsesPublicKey publicKeyInForm parsesResponse responseInForm keyInForm padded trimmed isVacant attributeOf isKeyOf isUnder isRegisterSound isSameKey freeRegister filledRegister withoutSlot isZeroSlot isNamed isFilledSlot isSlotSound isSameSlot freeSlot filledSlot resetSlot isOwned areSound isIdentityRight isLoadRequestRight isWellFormed decDigits decimalBytes areFieldsOf recordIn slotIn sessionPlace storePlace slotNamed areCounts isFilled questions slotsOpened slotsWithout loadedCard cardPlace answers.refused answers.answered answerOf slotIs registerIs isAccepted emptyRows
 ends = (refl, refl, (refl, refl, (refl, refl, (refl, refl, tt))))
 
 pub follows : Follows (emptyRows 2 2) stages

@@ -6,7 +6,7 @@ use Rattle.checksum.specs.Checksum.{sumDigits}
 use Rattle.text.specs.Classes.{areAll}
 use Rattle.decimals.specs.Decimals.{isNumber, isUnpadded}
 use Rattle.calendar.specs.Calendar.{isLeap, daysIn, isDate, isTime}
-use Rattle.timestamp.specs.Timestamps.{momentOf, timestampOf, isTimestamp}
+use Rattle.timestamp.specs.Timestamps.{isDateAndTime, isTimestamp}
 use Rattle.fields.specs.Values.{typed, valuesOf}
 use Rattle.forms.specs.Forms.{isAlgorithm}
 use Rattle.attributes.specs.Table.{table}
@@ -15,5 +15,5 @@ use Rattle.incoming_cards.specs.Incoming.{fits, isCardFrom, isMet, isIncoming}
 use Rattle.samples.specs.Samples.{AllHold, samples}
 
 pub all-hold : AllHold samples
-unfolding samples crcBit crcEight crcByte hexDigit sumDigits areAll isNumber isUnpadded isLeap daysIn isDate isTime momentOf timestampOf isTimestamp typed valuesOf isAlgorithm table nameOf valueOf fits isCardFrom isMet isIncoming
+unfolding samples crcBit crcEight crcByte hexDigit sumDigits areAll isNumber isUnpadded isLeap daysIn isDate isTime isDateAndTime isTimestamp typed valuesOf isAlgorithm table nameOf valueOf fits isCardFrom isMet isIncoming
 all-hold = (refl, (refl, (refl, (refl, (refl, (refl, (refl, (refl, (refl, (refl, (refl, (refl, (refl, (refl, (refl, tt)))))))))))))))

@@ -1,11 +1,9 @@
 -- Bytes in a space of zeros.
-use mathlib.Core.Path.{_≡_, refl, sym, ap, _∙_}
+use mathlib.Core.Path.{_≡_, refl, ap, _∙_}
 use mathlib.Core.List.{List, [], _∷_, _++_}
-use Prim.Native.Nat.{ℕ, zero, suc, _-_, _≤_, _<_}
-use native.Mathlib.Nat.{sub-zero}
+use Prim.Native.Nat.{ℕ, zero, suc, _≤_}
 use native.Mathlib.Omega.{arith}
 use lib.ListN.{length, take, drop, replicate, length-replicate}
-use lib.Seq.{length-take-le, take-all}
 use Rattle.octets.specs.Wrote.{Wrote}
 use Rattle.octets.proofs.Writes.{from-start}
 use Rattle.rows.specs.Lists.{padded}
@@ -35,14 +33,3 @@ module _ (s v e : List ℕ) (b : ℕ) where
 
   pub sixteen : v ≡ take 16 s → length v ≤ 16 → Wrote (replicate 16 0) 0 v e b → e ≡ padded 16 s
   sixteen = in-zeros 16 s v e b
-
--- front
-module _ (s : List ℕ) (n : ℕ) where
-  pub whole : length s ≤ n → s ≡ take n s
-  whole h = sym (take-all n s h)
-
-  pub part : take (n - 0) s ≡ take n s
-  part = ap (λ (k : ℕ). take k s) (sub-zero n)
-
-  pub part-short : n < length s → length (take (n - 0) s) ≤ n
-  part-short h = omega (arith, ap length part, length-take-le n s (omega arith))

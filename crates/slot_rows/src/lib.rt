@@ -2,8 +2,6 @@
 use rows::SlotRow;
 use rows::SlotState;
 ghost use mathlib.Core.Path.{_≡_};
-ghost use Prim.Native.Nat.{_≤_};
-ghost use lib.ListN.{length, take};
 ghost use Rattle.rows.specs.Lists.{padded};
 ghost use Rattle.rows.specs.Slots.{freeSlot, filledSlot, movedSlot, resetSlot};
 
@@ -22,23 +20,12 @@ pub fn free_slot() -> SlotRow
     }
 }
 
-// The first n bytes of s, or all where there are fewer.
-pub fn front<'a>(s: &'a [u8], n: usize) -> &'a [u8]
-    ensures { λ t. ⌜ now t ≡ take n (now (s .entry)) ⌝ }
-    ensures short { λ t. ⌜ length (now t) ≤ n ⌝ }
-{
-    if s.len() <= n {
-        return s;
-    }
-    &s[0..n]
-}
-
 // What fits of s into 40 bytes, with zeros after it.
 fn in_forty(s: &[u8]) -> [u8; 40]
     ensures { λ t. ⌜ t ≡ padded 40 (now (s .entry)) ⌝ }
 {
     let mut space = [0u8; 40];
-    octets::put(&mut space, 0, front(s, 40));
+    octets::put(&mut space, 0, octets::front(s, 40));
     space
 }
 
@@ -47,7 +34,7 @@ fn in_sixteen(s: &[u8]) -> [u8; 16]
     ensures { λ t. ⌜ t ≡ padded 16 (now (s .entry)) ⌝ }
 {
     let mut space = [0u8; 16];
-    octets::put(&mut space, 0, front(s, 16));
+    octets::put(&mut space, 0, octets::front(s, 16));
     space
 }
 

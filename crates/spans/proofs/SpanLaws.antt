@@ -1,6 +1,6 @@
 -- Runs of bytes that pass a test, by parts: a front that passes is gone over, and what stands behind it counts on.
 use mathlib.Core.Path.{_≡_, refl, sym, ap, _∙_}
-use mathlib.Core.Bool.{Bool, true, false, not, cond, _&&_}
+use mathlib.Core.Bool.{Bool, true, false, not, cond, and-assoc, _&&_}
 use mathlib.Core.List.{List, [], _∷_, _++_}
 use Prim.Native.Nat.{ℕ, zero, suc, _+_, _-_, _≤_, _<_}
 use native.Mathlib.Omega.{arith}
@@ -14,10 +14,6 @@ use Rattle.octets.proofs.Flags.{nope}
 use Rattle.octets.proofs.StringLaws.{rest, run-stopped, run-turn, all-run, all-parts, drop-take}
 
 -- lacks: what was compared so far is no delimiter and what is left is none, as the whole is, x
-assoc : (a b c : Bool) → ((a && b) && c) ≡ (a && (b && c))
-assoc true b c = refl
-assoc false b c = refl
-
 and-none : (b : Bool) → b ≡ (b && true)
 and-none true = refl
 and-none false = refl
@@ -26,7 +22,7 @@ module _ (d : ℕ) (s : List ℕ) (none : Bool) (i : ℕ) (x : Bool) (inv : (non
   pub lacks-turn : i < length s → ((none && not (eqb (getD s i 0) d)) && allOf (isNot d) (drop (i + 1) s)) ≡ x
   lacks-turn h =
       let c : allOf (isNot d) (drop i s) ≡ (not (eqb (getD s i 0) d) && allOf (isNot d) (drop (i + 1) s)) = rw (add-one, drop-cons s i 0 h) refl in
-      assoc none (not (eqb (getD s i 0) d)) (allOf (isNot d) (drop (i + 1) s)) ∙ ap (λ (b : Bool). none && b) (sym c) ∙ inv
+      and-assoc none (not (eqb (getD s i 0) d)) (allOf (isNot d) (drop (i + 1) s)) ∙ ap (λ (b : Bool). none && b) (sym c) ∙ inv
 
   pub lacks-ended : length s ≤ i → none ≡ x
   lacks-ended h = let e : drop i s ≡ [] = drop-of-length-le s {i = i} h in and-none none ∙ (rw e at inv)

@@ -50,18 +50,19 @@ fn skip(s: &[u8], delimiter: u8) -> usize
     at
 }
 
-// How many bytes stand before the first delimiter, or before the end. Most are few, so sixteen are looked at one by one first.
-pub fn until(s: &[u8], delimiter: u8) -> usize
-    ensures { λ r. ⌜ r ≡ run (isNot delimiter) (now (s .entry)) ⌝ }
-    ensures short { λ r. ⌜ r ≤ length (now (s .entry)) ⌝ }
+// How many bytes stand before the first delimiter, or before the end. Most are few, so sixteen are looked at one by
+// one first.
+pub fn until(bytes: &[u8], delimiter: u8) -> usize
+    ensures { λ r. ⌜ r ≡ run (isNot delimiter) (now (bytes .entry)) ⌝ }
+    ensures short { λ r. ⌜ r ≤ length (now (bytes .entry)) ⌝ }
 {
-    if s.len() <= 32 {
-        return count(s, delimiter);
+    if bytes.len() <= 32 {
+        return count(bytes, delimiter);
     }
-    let first = count(&s[..16], delimiter);
+    let first = count(&bytes[..16], delimiter);
     if first < 16 {
         return first;
     }
-    let at = skip(s, delimiter);
-    at + count(&s[at..], delimiter)
+    let at = skip(bytes, delimiter);
+    at + count(&bytes[at..], delimiter)
 }

@@ -1,6 +1,6 @@
 -- Loops that no byte ends: what was tested so far passes and what is left does, as the whole does, x.
 use mathlib.Core.Path.{_≡_, refl, sym, ap, _∙_}
-use mathlib.Core.Bool.{Bool, true, false, _&&_}
+use mathlib.Core.Bool.{Bool, true, false, and-assoc, _&&_}
 use mathlib.Core.List.{List, []}
 use Prim.Native.Nat.{ℕ, _+_, _≤_, _<_}
 use native.Mathlib.Numerals.{add-one}
@@ -11,10 +11,6 @@ use Rattle.octets.specs.Strings.{allOf}
 use Rattle.text.specs.Classes.{within, isBetween, isOf, areAll}
 use Rattle.text.specs.declared.Class.the-variants.{Text, Printable, Zero}
 
-assoc : (a b c : Bool) → ((a && b) && c) ≡ (a && (b && c))
-assoc true b c = refl
-assoc false b c = refl
-
 and-none : (b : Bool) → b ≡ (b && true)
 and-none true = refl
 and-none false = refl
@@ -23,7 +19,7 @@ module _ (f : ℕ → Bool) (s : List ℕ) (good : Bool) (i : ℕ) (x : Bool) (i
   pub every-turn : i < length s → (t : Bool) → t ≡ f (getD s i 0) → ((good && t) && allOf f (drop (i + 1) s)) ≡ x
   every-turn h t e =
       let c : allOf f (drop i s) ≡ (t && allOf f (drop (i + 1) s)) = rw (add-one, drop-cons s i 0 h, e) refl in
-      assoc good t (allOf f (drop (i + 1) s)) ∙ ap (λ (b : Bool). good && b) (sym c) ∙ inv
+      and-assoc good t (allOf f (drop (i + 1) s)) ∙ ap (λ (b : Bool). good && b) (sym c) ∙ inv
 
   pub every-ended : length s ≤ i → good ≡ x
   every-ended h = let e : drop i s ≡ [] = drop-of-length-le s {i = i} h in and-none good ∙ (rw e at inv)

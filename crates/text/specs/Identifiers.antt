@@ -1,12 +1,18 @@
 -- Identifiers, the type IDENT (003 clause 5.1.3; document 01, Records).
 use Prim.Native.Nat.{ℕ}
-use mathlib.Core.Bool.{Bool, _&&_}
-use mathlib.Core.List.{List}
+use mathlib.Core.Bool.{Bool}
+use mathlib.Core.List.{List, [], _∷_}
 use lib.Dec.{leb}
 use lib.ListN.{length, getD}
+use Rattle.octets.specs.Texts.{all}
 use Rattle.text.specs.Classes.{areAll, isAlphanumeric}
 use Rattle.text.specs.declared.Class.the-variants.{Identifier}
 
--- a letter or digit, then letters, digits and _ - . , to 40 bytes in all
 unfoldable pub isIdentifier : List ℕ → Bool
-isIdentifier v = leb 1 (length v) && (leb (length v) 40 && (isAlphanumeric (getD v 0 0) && areAll Identifier v))
+isIdentifier v =
+    all (
+    leb 1 (length v)
+    ∷ leb (length v) 40  -- document 01, Records: 1 to 40 bytes
+    ∷ isAlphanumeric (getD v 0 0)  -- 003 clause 5.1.3: one alphanumeric character
+    ∷ areAll Identifier v  -- followed by letters, digits and _ - . ,
+    ∷ [])

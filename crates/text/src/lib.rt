@@ -26,65 +26,65 @@ fn within(b: u8, low: u8, high: u8) -> bool
 fn is_alphanumeric(b: u8) -> bool
     ensures { λ r. ⌜ r ≡ isAlphanumeric b ⌝ }
 {
-    if within(b, 48, 57) {
+    if within(b, b'0', b'9') {
         return true;
     }
-    if within(b, 65, 90) {
+    if within(b, b'A', b'Z') {
         return true;
     }
-    within(b, 97, 122)
+    within(b, b'a', b'z')
 }
 
 fn is_mark(b: u8) -> bool
     ensures { λ r. ⌜ r ≡ isMark b ⌝ }
 {
-    if b == 95 {
+    if b == b'_' {
         return true;
     }
-    within(b, 44, 46)
+    within(b, b',', b'.')
 }
 
 // Whether a byte is of a class.
-pub fn is_of(class: Class, b: u8) -> bool
-    ensures { λ r. ⌜ r ≡ isOf class b ⌝ }
+pub fn is_of(class: Class, byte: u8) -> bool
+    ensures { λ r. ⌜ r ≡ isOf class byte ⌝ }
 {
     match class {
-        Class::Digit => within(b, 48, 57),
+        Class::Digit => within(byte, b'0', b'9'),
         Class::Hexadecimal => {
-            if within(b, 48, 57) {
+            if within(byte, b'0', b'9') {
                 return true;
             }
-            within(b, 65, 70)
+            within(byte, b'A', b'F')
         }
-        Class::Capital => within(b, 65, 90),
+        Class::Capital => within(byte, b'A', b'Z'),
         Class::Identifier => {
-            if is_alphanumeric(b) {
+            if is_alphanumeric(byte) {
                 return true;
             }
-            is_mark(b)
+            is_mark(byte)
         }
-        Class::Text => within(b, 32, 125),
-        Class::Printable => within(b, 32, 126),
+        Class::Text => within(byte, 0x20, 0x7D),
+        Class::Printable => within(byte, 0x20, 0x7E),
         Class::Value => {
-            if b == 59 {
+            if byte == b';' {
                 return false;
             }
-            if b == 124 {
+            if byte == b'|' {
                 return false;
             }
-            within(b, 32, 125)
+            within(byte, 0x20, 0x7D)
         }
-        Class::Zero => b == 0,
+        Class::Zero => byte == 0,
     }
 }
 
 // Whether every byte is of a class.
-pub fn are_all(class: Class, s: &[u8]) -> bool
-    ensures { λ r. ⌜ r ≡ areAll class (now (s .entry)) ⌝ }
+pub fn are_all(class: Class, bytes: &[u8]) -> bool
+    ensures { λ r. ⌜ r ≡ areAll class (now (bytes .entry)) ⌝ }
 {
     let mut i = 0;
-    while i < s.len() {
-        if !is_of(class, s[i]) {
+    while i < bytes.len() {
+        if !is_of(class, bytes[i]) {
             return false;
         }
         i += 1;
@@ -93,13 +93,13 @@ pub fn are_all(class: Class, s: &[u8]) -> bool
 }
 
 // Whether every byte is zero. No byte ends the loop, so that many are tested at a time.
-pub fn are_zeros(s: &[u8]) -> bool
-    ensures { λ r. ⌜ r ≡ areAll Zero (now (s .entry)) ⌝ }
+pub fn are_zeros(bytes: &[u8]) -> bool
+    ensures { λ r. ⌜ r ≡ areAll Zero (now (bytes .entry)) ⌝ }
 {
     let mut clear = true;
     let mut k = 0;
-    while k < s.len() {
-        clear = clear & (s[k] == 0);
+    while k < bytes.len() {
+        clear = clear & (bytes[k] == 0);
         k += 1;
     }
     clear
@@ -119,31 +119,31 @@ fn are_within(s: &[u8], low: u8, high: u8) -> bool
 }
 
 // Whether every byte is text.
-pub fn are_text(s: &[u8]) -> bool
-    ensures { λ r. ⌜ r ≡ areAll Text (now (s .entry)) ⌝ }
+pub fn are_text(bytes: &[u8]) -> bool
+    ensures { λ r. ⌜ r ≡ areAll Text (now (bytes .entry)) ⌝ }
 {
-    are_within(s, 32, 125)
+    are_within(bytes, 0x20, 0x7D)
 }
 
 // Whether every byte is printable.
-pub fn are_printable(s: &[u8]) -> bool
-    ensures { λ r. ⌜ r ≡ areAll Printable (now (s .entry)) ⌝ }
+pub fn are_printable(bytes: &[u8]) -> bool
+    ensures { λ r. ⌜ r ≡ areAll Printable (now (bytes .entry)) ⌝ }
 {
-    are_within(s, 32, 126)
+    are_within(bytes, 0x20, 0x7E)
 }
 
-// Whether v is an identifier.
-pub fn is_identifier(v: &[u8]) -> bool
-    ensures { λ r. ⌜ r ≡ isIdentifier (now (v .entry)) ⌝ }
+// Whether a name is an identifier.
+pub fn is_identifier(name: &[u8]) -> bool
+    ensures { λ r. ⌜ r ≡ isIdentifier (now (name .entry)) ⌝ }
 {
-    if v.len() < 1 {
+    if name.len() < 1 {
         return false;
     }
-    if 40 < v.len() {
+    if 40 < name.len() {
         return false;
     }
-    if !is_alphanumeric(v[0]) {
+    if !is_alphanumeric(name[0]) {
         return false;
     }
-    are_all(Class::Identifier, v)
+    are_all(Class::Identifier, name)
 }

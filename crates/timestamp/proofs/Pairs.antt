@@ -1,5 +1,5 @@
 -- Digits read two at a time: what the pairs say is what the whole says.
-use mathlib.Core.Path.{_≡_, refl, sym, _∙_}
+use mathlib.Core.Path.{_≡_, refl, sym, subst}
 use mathlib.Core.Bool.{Bool, true, false, cond, and-false, _&&_}
 use mathlib.Core.List.{List, [], _∷_}
 use Prim.Native.Nat.{ℕ, _+_, _-_, _*_, _≤_, _<_}
@@ -10,10 +10,13 @@ use lib.ListN.{length, getD, take, drop, drop-of-length-le}
 use lib.Seq.{drop-cons}
 use borrow.Author.Tests.{le-leb, lt-leb, leb-true}
 use Rattle.octets.specs.Strings.{allOf}
-use Rattle.octets.proofs.Flags.{and-second}
+use Rattle.octets.proofs.Flags.{nope, and-first, and-second}
 use Rattle.text.specs.Classes.{areAll, isOf, within}
 use Rattle.text.specs.declared.Class.the-variants.{Digit}
 use Rattle.decimals.specs.Decimals.{decFrom, decimal}
+use Rattle.calendar.specs.Calendar.{daysIn, isDate, isTime}
+use Rattle.calendar.proofs.DateLaws.{century-over, year-over, month-over, day-over, days-range, hour-over, minute-over, second-over}
+use Rattle.timestamp.specs.Timestamps.{numberAt}
 
 -- the number that two digits say, and 100 where one is no digit
 abbrev pub numberOf : List ℕ → ℕ
@@ -57,47 +60,103 @@ module _ (s : List ℕ) (at : ℕ) (n : at + 2 ≤ length s) where
   unfolding areAll
   two-digits p q r t m e = rw (split, le-leb 48 a p, le-leb a 57 q, le-leb 48 b r, le-leb b 57 t) (omega arith)
 
--- one pair more: v is the number of the digits before; k makes an answer of the whole number, and z is the answer where a byte is no digit
-module _ {A : Type 0} (k : ℕ → A) (z : A) where
-  step : (a b p v : ℕ) (l : List ℕ) → p ≡ numberOf (a ∷ b ∷ [])
-      → cond (areAll Digit (a ∷ b ∷ l)) (k (decFrom v (a ∷ b ∷ l))) z ≡ cond (leb p 99) (cond (areAll Digit l) (k (decFrom (v * 100 + p) l)) z) z
+-- a pair p that is read of two bytes: their number, below 100, or 100
+module _ (a b p : ℕ) where
+  read-pair : (t : Bool) → areAll Digit (a ∷ b ∷ []) ≡ t → p ≡ numberOf (a ∷ b ∷ []) → p ≡ cond t (decimal (a ∷ b ∷ [])) 100
+  read-pair t e q = rw e at q
+
+  pair-below : areAll Digit (a ∷ b ∷ []) ≡ true → p ≡ decimal (a ∷ b ∷ []) → p ≤ 99
   unfolding areAll
-  step a b p v l e = by-case (within a 48 57) (within b 48 57) refl refl e
+  pair-below e q =
+      let i = leb-true a 57 (and-second (leb 48 a) (leb a 57) (and-first (within a 48 57) (within b 48 57 && true) e)) in
+      let j = leb-true b 57 (and-second (leb 48 b) (leb b 57) (and-first (within b 48 57) true (and-second (within a 48 57) (within b 48 57 && true) e))) in
+      omega arith
+
+all-pairs : (a b : ℕ) (l : List ℕ) → areAll Digit (a ∷ b ∷ l) ≡ (areAll Digit (a ∷ b ∷ []) && areAll Digit l)
+unfolding areAll
+all-pairs a b l = by-case (within a 48 57) (within b 48 57)
+  where
+    by-case : (x y : Bool) → (x && (y && allOf (isOf Digit) l)) ≡ ((x && (y && true)) && allOf (isOf Digit) l)
+    by-case true true = refl
+    by-case true false = refl
+    by-case false y = refl
+
+-- eight digits: what is asked of their number is asked of four pairs, the century, the year in it, the month and the day
+module _ (a b c d e f g h p q r t : ℕ) (i : p ≡ numberOf (a ∷ b ∷ [])) (j : q ≡ numberOf (c ∷ d ∷ [])) (k : r ≡ numberOf (e ∷ f ∷ [])) (l : t ≡ numberOf (g ∷ h ∷ [])) where
+  abbrev date : List ℕ
+  date = a ∷ b ∷ c ∷ d ∷ e ∷ f ∷ g ∷ h ∷ []
+
+  date-by-pairs : ((areAll Digit date && isDate (numberAt 0 4 date) (numberAt 4 2 date) (numberAt 6 2 date)) ≡ (leb q 99 && isDate (p * 100 + q) r t))
+      × (areAll Digit date ≡ true → decimal date ≡ ((p * 100 + q) * 100 + r) * 100 + t)
+  date-by-pairs =
+      rw (all-pairs a b (c ∷ d ∷ e ∷ f ∷ g ∷ h ∷ []), all-pairs c d (e ∷ f ∷ g ∷ h ∷ []), all-pairs e f (g ∷ h ∷ []))
+      (by-case (areAll Digit (a ∷ b ∷ [])) (areAll Digit (c ∷ d ∷ [])) (areAll Digit (e ∷ f ∷ [])) (areAll Digit (g ∷ h ∷ [])) refl refl refl refl)
     where
-      by-case : (x y : Bool) → within a 48 57 ≡ x → within b 48 57 ≡ y → p ≡ cond (x && (y && true)) ((0 * 10 + (a - 48)) * 10 + (b - 48)) 100
-          → cond (x && (y && allOf (isOf Digit) l)) (k (decFrom ((v * 10 + (a - 48)) * 10 + (b - 48)) l)) z ≡ cond (leb p 99) (cond (allOf (isOf Digit) l) (k (decFrom (v * 100 + p) l)) z) z
-      by-case true true f g h =
-          let i = leb-true a 57 (and-second (leb 48 a) (leb a 57) f) in
-          let j = leb-true b 57 (and-second (leb 48 b) (leb b 57) g) in
-          let o : (v * 10 + (a - 48)) * 10 + (b - 48) ≡ v * 100 + p = omega arith in
-          rw (le-leb p 99 (omega arith), o)
-      by-case true false f g h = rw h
-      by-case false y f g h = rw h
+      by-case : (w x y z : Bool) → areAll Digit (a ∷ b ∷ []) ≡ w → areAll Digit (c ∷ d ∷ []) ≡ x → areAll Digit (e ∷ f ∷ []) ≡ y → areAll Digit (g ∷ h ∷ []) ≡ z
+          → (((w && (x && (y && z))) && isDate (numberAt 0 4 date) (numberAt 4 2 date) (numberAt 6 2 date)) ≡ (leb q 99 && isDate (p * 100 + q) r t))
+          × ((w && (x && (y && z))) ≡ true → decimal date ≡ ((p * 100 + q) * 100 + r) * 100 + t)
+      by-case true true true true m n o u =
+          let pp = read-pair a b p true m i in
+          let qq = read-pair c d q true n j in
+          let rr = read-pair e f r true o k in
+          let tt' = read-pair g h t true u l in
+          let year : numberAt 0 4 date ≡ p * 100 + q = omega arith in
+          (rw (le-leb q 99 (pair-below c d q n qq), year, ← rr, ← tt'), λ v. omega arith)
+      by-case true true true false m n o u =
+          let k' = days-range (p * 100 + q) r in
+          (day-over p q r t (omega (arith, read-pair g h t false u l)), λ v. nope (cc))
+      by-case true true false z m n o u = (month-over p q r t (omega (arith, read-pair e f r false o k)), λ v. nope (cc))
+      by-case true false y z m n o u = (year-over p q r t (omega (arith, read-pair c d q false n j)), λ v. nope (cc))
+      by-case false x y z m n o u = (century-over p q r t (omega (arith, read-pair a b p false m i)), λ v. nope (cc))
 
-  next : (s : List ℕ) (at : ℕ) → at + 2 ≤ length s → (p : ℕ) → p ≡ pairAt s at → (v : ℕ)
-      → cond (areAll Digit (drop at s)) (k (decFrom v (drop at s))) z ≡ cond (leb p 99) (cond (areAll Digit (drop (at + 2) s)) (k (decFrom (v * 100 + p) (drop (at + 2) s))) z) z
-  next s at n p e v = rw (split s at n) (step (getD s at 0) (getD s (at + 1) 0) p v (drop (at + 2) s) (rw (split s at n) at e))
+-- six digits are three pairs: the hour, the minute and the second
+module _ (a b c d e f p q r : ℕ) (i : p ≡ numberOf (a ∷ b ∷ [])) (j : q ≡ numberOf (c ∷ d ∷ [])) (k : r ≡ numberOf (e ∷ f ∷ [])) where
+  abbrev time : List ℕ
+  time = a ∷ b ∷ c ∷ d ∷ e ∷ f ∷ []
 
-  ended : (s : List ℕ) (at : ℕ) → length s ≤ at → (v : ℕ) → cond (areAll Digit (drop at s)) (k (decFrom v (drop at s))) z ≡ k v
-  unfolding areAll
-  ended s at n v = rw (drop-of-length-le s {i = at} n)
+  time-by-pairs : ((areAll Digit time && isTime (numberAt 0 2 time) (numberAt 2 2 time) (numberAt 4 2 time)) ≡ isTime p q r)
+      × (areAll Digit time ≡ true → decimal time ≡ (p * 100 + q) * 100 + r)
+  time-by-pairs =
+      rw (all-pairs a b (c ∷ d ∷ e ∷ f ∷ []), all-pairs c d (e ∷ f ∷ []))
+      (by-case (areAll Digit (a ∷ b ∷ [])) (areAll Digit (c ∷ d ∷ [])) (areAll Digit (e ∷ f ∷ [])) refl refl refl)
+    where
+      by-case : (w x y : Bool) → areAll Digit (a ∷ b ∷ []) ≡ w → areAll Digit (c ∷ d ∷ []) ≡ x → areAll Digit (e ∷ f ∷ []) ≡ y
+          → (((w && (x && y)) && isTime (numberAt 0 2 time) (numberAt 2 2 time) (numberAt 4 2 time)) ≡ isTime p q r) × ((w && (x && y)) ≡ true → decimal time ≡ (p * 100 + q) * 100 + r)
+      by-case true true true m n o =
+          let pp = read-pair a b p true m i in
+          let qq = read-pair c d q true n j in
+          let rr = read-pair e f r true o k in
+          (rw (← pp, ← qq, ← rr), λ v. omega arith)
+      by-case true true false m n o = (second-over p q r (omega (arith, read-pair e f r false o k)), λ v. nope (cc))
+      by-case true false y m n o = (minute-over p q r (omega (arith, read-pair c d q false n j)), λ v. nope (cc))
+      by-case false x y m n o = (hour-over p q r (omega (arith, read-pair a b p false m i)), λ v. nope (cc))
 
--- two tests one after the other are their conjunction
-cond-and : {A : Type 0} (a b : Bool) (w z : A) → cond (a && b) w z ≡ cond a (cond b w z) z
-cond-and true b w z = refl
-cond-and false b w z = refl
+-- a list of eight bytes, and one of six, as its bytes
+module _ (s : List ℕ) where
+  two-more : (at : ℕ) → at + 2 ≤ length s → (l : List ℕ) → drop (at + 2) s ≡ l → drop at s ≡ getD s at 0 ∷ getD s (at + 1) 0 ∷ l
+  two-more at n l e = rw e at (split s at n)
 
--- six digits from a place on are three pairs, and eight are four; f is a test of the number w that they say
-module _ {A : Type 0} (f : ℕ → Bool) (k : ℕ → A) (z : A) (s : List ℕ) where
-  abbrev tested : ℕ → A
-  tested n = cond (f n) (k n) z
+  six-bytes : (at : ℕ) → length s ≡ at + 6 → drop at s ≡ getD s at 0 ∷ getD s (at + 1) 0 ∷ getD s (at + 2) 0 ∷ getD s (at + 2 + 1) 0 ∷ getD s (at + 2 + 2) 0 ∷ getD s (at + 2 + 2 + 1) 0 ∷ []
+  six-bytes at n = two-more at (omega arith) _ (two-more (at + 2) (omega arith) _ (two-more (at + 2 + 2) (omega arith) [] (drop-of-length-le s {i = at + 2 + 2 + 2} (omega arith))))
 
-  pub three : (at v : ℕ) → length s ≡ at + 6 → (p q r : ℕ) → p ≡ pairAt s at → q ≡ pairAt s (at + 2) → r ≡ pairAt s (at + 2 + 2) → (w : ℕ) → w ≡ ((v * 100 + p) * 100 + q) * 100 + r
-      → cond (areAll Digit (drop at s)) (tested (decFrom v (drop at s))) z ≡ cond (leb p 99 && (leb q 99 && (leb r 99 && f w))) (k w) z
-  three at v n p q r e g h w o =
-      next tested z s at (omega arith) p e v
-      ∙ rw (next tested z s (at + 2) (omega arith) q g (v * 100 + p), next tested z s (at + 2 + 2) (omega arith) r h ((v * 100 + p) * 100 + q), ended tested z s (at + 2 + 2 + 2) (omega arith), ← o) (simp cond-and)
+  eight-bytes : length s ≡ 8 → s ≡ getD s 0 0 ∷ getD s 1 0 ∷ getD s 2 0 ∷ getD s 3 0 ∷ getD s 4 0 ∷ getD s 5 0 ∷ getD s 6 0 ∷ getD s 7 0 ∷ []
+  eight-bytes n = two-more 0 (omega arith) _ (six-bytes 2 n)
 
-  pub four : length s ≡ 8 → (o p q r : ℕ) → o ≡ pairAt s 0 → p ≡ pairAt s 2 → q ≡ pairAt s 4 → r ≡ pairAt s 6 → (w : ℕ) → w ≡ ((o * 100 + p) * 100 + q) * 100 + r
-      → cond (areAll Digit s) (tested (decimal s)) z ≡ cond (leb o 99 && (leb p 99 && (leb q 99 && (leb r 99 && f w)))) (k w) z
-  four n o p q r e g h i w x = next tested z s 0 (omega arith) o e 0 ∙ rw (three 2 (0 * 100 + o) n p q r g h i w (omega arith)) (sym (cond-and (leb o 99) _ (k w) z))
+-- what the pairs of a date and of a time say of their digits
+abbrev pub DateBy : ℕ → ℕ → ℕ → ℕ → List ℕ → Type 0
+DateBy p q r t s = ((areAll Digit s && isDate (numberAt 0 4 s) (numberAt 4 2 s) (numberAt 6 2 s)) ≡ (leb q 99 && isDate (p * 100 + q) r t))
+    × (areAll Digit s ≡ true → decimal s ≡ ((p * 100 + q) * 100 + r) * 100 + t)
+
+abbrev pub TimeBy : ℕ → ℕ → ℕ → List ℕ → Type 0
+TimeBy p q r s = ((areAll Digit s && isTime (numberAt 0 2 s) (numberAt 2 2 s) (numberAt 4 2 s)) ≡ isTime p q r)
+    × (areAll Digit s ≡ true → decimal s ≡ (p * 100 + q) * 100 + r)
+
+pub date-pairs : (s : List ℕ) → length s ≡ 8 → (p q r t : ℕ) → p ≡ pairAt s 0 → q ≡ pairAt s 2 → r ≡ pairAt s 4 → t ≡ pairAt s 6 → DateBy p q r t s
+date-pairs s n p q r t =
+    subst (λ (u : List ℕ). p ≡ pairAt u 0 → q ≡ pairAt u 2 → r ≡ pairAt u 4 → t ≡ pairAt u 6 → DateBy p q r t u) (sym (eight-bytes s n))
+    (λ i j k l. date-by-pairs (getD s 0 0) (getD s 1 0) (getD s 2 0) (getD s 3 0) (getD s 4 0) (getD s 5 0) (getD s 6 0) (getD s 7 0) p q r t i j k l)
+
+pub time-pairs : (s : List ℕ) → length s ≡ 6 → (p q r : ℕ) → p ≡ pairAt s 0 → q ≡ pairAt s 2 → r ≡ pairAt s 4 → TimeBy p q r s
+time-pairs s n p q r =
+    subst (λ (u : List ℕ). p ≡ pairAt u 0 → q ≡ pairAt u 2 → r ≡ pairAt u 4 → TimeBy p q r u) (sym (six-bytes s 0 n))
+    (λ i j k. time-by-pairs (getD s 0 0) (getD s 1 0) (getD s 2 0) (getD s 3 0) (getD s 4 0) (getD s 5 0) p q r i j k)

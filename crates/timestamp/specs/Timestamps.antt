@@ -1,9 +1,12 @@
--- Timestamps YYYYMMDDThhmmssZ (003 clause 5.1.4) and PTVD dates CCYYMMDDhhmmss (001 Table 6): Gregorian, years 1900 to 9999, no leap seconds (document 01).
+-- Timestamps YYYYMMDDThhmmssZ (003 clause 5.1.4) and PTVD dates CCYYMMDDhhmmss (001 Table 6): Gregorian, years 1900
+-- to 9999, no leap seconds (document 01).
 use Prim.Native.Nat.{ℕ, _+_, _*_}
-use mathlib.Core.Bool.{Bool, true, false, cond, _&&_}
-use mathlib.Core.List.{List}
+use Prim.Native.Char.{code}
+use mathlib.Core.Bool.{Bool, true, false, cond}
+use mathlib.Core.List.{List, [], _∷_}
 use lib.Dec.{ltb, eqb}
 use lib.ListN.{length, getD, take, drop}
+use Rattle.octets.specs.Texts.{all}
 use Rattle.text.specs.Classes.{areAll}
 use Rattle.text.specs.declared.Class.the-variants.{Digit}
 use Rattle.decimals.specs.Decimals.{decimal}
@@ -11,20 +14,45 @@ use Rattle.calendar.specs.Calendar.{isDate, isTime}
 use Rattle.timestamp.specs.declared.Moment.{Moment}
 use Rattle.timestamp.specs.declared.Moment.the-variants.{At, Bad}
 
--- the moment that the digits of a date and of a time say, as the number YYYYMMDDhhmmss
-unfoldable pub momentOf : List ℕ → List ℕ → Moment
-momentOf date time =
-    cond (areAll Digit date && (areAll Digit time && (isDate (decimal date) && isTime (decimal time))))
-    (At (decimal date * 1000000 + decimal time))
-    Bad
+-- the number that so many digits from a place on say
+abbrev pub numberAt : ℕ → ℕ → List ℕ → ℕ
+numberAt at n s = decimal (take n (drop at s))
 
--- sixteen bytes: eight digits, T, six digits, Z
+-- YYYYMMDD and hhmmss are digits that say a date and a time of day
+unfoldable pub isDateAndTime : List ℕ → List ℕ → Bool
+isDateAndTime date time =
+    all (
+    areAll Digit date
+    ∷ isDate (numberAt 0 4 date) (numberAt 4 2 date) (numberAt 6 2 date)  -- YYYY, MM, DD
+    ∷ areAll Digit time
+    ∷ isTime (numberAt 0 2 time) (numberAt 2 2 time) (numberAt 4 2 time)  -- hh, mm, ss
+    ∷ [])
+
+-- 003 clause 5.1.4: YYYYMMDDThhmmssZ
+unfoldable pub isTimestamp : List ℕ → Bool
+isTimestamp s =
+    all (
+    eqb (length s) 16
+    ∷ eqb (getD s 8 0) (code "T")
+    ∷ eqb (getD s 15 0) (code "Z")
+    ∷ isDateAndTime (take 8 s) (take 6 (drop 9 s))
+    ∷ [])
+
+-- 001 Table 6, DateTime: CCYYMMDDhhmmss
+unfoldable pub isDateTime : List ℕ → Bool
+isDateTime s =
+    all (
+    eqb (length s) 14
+    ∷ isDateAndTime (take 8 s) (take 6 (drop 8 s))
+    ∷ [])
+
+-- the moment of a timestamp as the number YYYYMMDDhhmmss, which is greater for the later one
 unfoldable pub timestampOf : List ℕ → Moment
-timestampOf s = cond (eqb (length s) 16 && (eqb (getD s 8 0) 84 && eqb (getD s 15 0) 90)) (momentOf (take 8 s) (take 6 (drop 9 s))) Bad
+timestampOf s = cond (isTimestamp s) (At (numberAt 0 8 s * 1000000 + numberAt 9 6 s)) Bad
 
--- fourteen digits
+-- the moment of a PTVD date, as the same number
 unfoldable pub dateTimeOf : List ℕ → Moment
-dateTimeOf s = cond (eqb (length s) 14) (momentOf (take 8 s) (take 6 (drop 8 s))) Bad
+dateTimeOf s = cond (isDateTime s) (At (numberAt 0 8 s * 1000000 + numberAt 8 6 s)) Bad
 
 abbrev pub isMoment : Moment → Bool
 isMoment (At x) = true
@@ -35,9 +63,3 @@ abbrev pub isLater : Moment → Moment → Bool
 isLater (At x) (At y) = ltb y x
 isLater (At x) Bad = false
 isLater Bad y = false
-
-unfoldable pub isTimestamp : List ℕ → Bool
-isTimestamp s = isMoment (timestampOf s)
-
-unfoldable pub isDateTime : List ℕ → Bool
-isDateTime s = isMoment (dateTimeOf s)

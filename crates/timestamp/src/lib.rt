@@ -1,12 +1,14 @@
-// Timestamps YYYYMMDDThhmmssZ and PTVD dates CCYYMMDDhhmmss: Gregorian, years 1900 to 9999, no leap seconds (document 01; 003 clause 5.1.4; 001 Table 6).
+// Timestamps YYYYMMDDThhmmssZ and PTVD dates CCYYMMDDhhmmss: Gregorian, years 1900 to 9999, no leap seconds (document
+// 01; 003 clause 5.1.4; 001 Table 6).
 ghost use mathlib.Core.Path.{_≡_};
 ghost use mathlib.Core.Bool.{cond};
-ghost use Prim.Native.Nat.{_+_, _≤_};
+ghost use Prim.Native.Nat.{_+_, _*_, _≤_};
 ghost use lib.ListN.{length, take, drop};
 ghost use Rattle.text.specs.Classes.{areAll};
 ghost use Rattle.text.specs.declared.Class.the-variants.{Digit};
 ghost use Rattle.decimals.specs.Decimals.{decimal};
-ghost use Rattle.timestamp.specs.Timestamps.{momentOf, timestampOf, dateTimeOf, isMoment, isLater};
+ghost use Rattle.timestamp.specs.declared.Moment.the-variants.{At, Bad};
+ghost use Rattle.timestamp.specs.Timestamps.{isDateAndTime, timestampOf, dateTimeOf, isMoment, isLater};
 
 // A moment as the number YYYYMMDDhhmmss, or none.
 pub enum Moment {
@@ -17,30 +19,33 @@ pub enum Moment {
 // The number that the two digits at a place say, and 100 where one is no digit.
 fn pair(s: &[u8], at: usize) -> u64
     requires { ⌜ at + 2 ≤ length (now s) ⌝ }
-    ensures { λ r. ⌜ r ≡ cond (areAll Digit (take 2 (drop at (now (s .entry))))) (decimal (take 2 (drop at (now (s .entry))))) 100 ⌝ }
+    ensures { λ r. ⌜ r ≡ cond (areAll Digit (take 2 (drop at (now (s .entry)))))
+        (decimal (take 2 (drop at (now (s .entry))))) 100 ⌝ }
     ensures small { λ r. ⌜ r ≤ 100 ⌝ }
 {
     let a = s[at];
     let b = s[at + 1];
-    if a < 48 {
+    if a < b'0' {
         return 100;
     }
-    if 57 < a {
+    if b'9' < a {
         return 100;
     }
-    if b < 48 {
+    if b < b'0' {
         return 100;
     }
-    if 57 < b {
+    if b'9' < b {
         return 100;
     }
-    ((a - 48) as u64) * 10 + ((b - 48) as u64)
+    ((a - b'0') as u64) * 10 + ((b - b'0') as u64)
 }
 
-// The moment is read by numbers of two digits, without loop and division: a pair that is no number, 100, is refused by the calendar.
+// The moment is read by numbers of two digits, without loop and division: a pair that is no number, 100, is refused
+// by the calendar.
 fn moment_of(date: &[u8], time: &[u8]) -> Moment
     requires { ⌜ (length (now date) ≡ 8) × (length (now time) ≡ 6) ⌝ }
-    ensures { λ r. ⌜ r ≡ momentOf (now (date .entry)) (now (time .entry)) ⌝ }
+    ensures { λ r. ⌜ r ≡ cond (isDateAndTime (now (date .entry)) (now (time .entry)))
+        (At (decimal (now (date .entry)) * 1000000 + decimal (now (time .entry)))) Bad ⌝ }
 {
     let century = pair(date, 0);
     let year = pair(date, 2);
@@ -62,49 +67,49 @@ fn moment_of(date: &[u8], time: &[u8]) -> Moment
 }
 
 // The moment of a timestamp.
-pub fn read_timestamp(s: &[u8]) -> Moment
-    ensures { λ r. ⌜ r ≡ timestampOf (now (s .entry)) ⌝ }
+pub fn read_timestamp(bytes: &[u8]) -> Moment
+    ensures { λ r. ⌜ r ≡ timestampOf (now (bytes .entry)) ⌝ }
 {
-    if s.len() != 16 {
+    if bytes.len() != 16 {
         return Moment::Bad;
     }
-    if s[8] != 84 {
+    if bytes[8] != b'T' {
         return Moment::Bad;
     }
-    if s[15] != 90 {
+    if bytes[15] != b'Z' {
         return Moment::Bad;
     }
-    moment_of(&s[0..8], &s[9..15])
+    moment_of(&bytes[0..8], &bytes[9..15])
 }
 
 // The moment of a PTVD date.
-pub fn read_date_time(s: &[u8]) -> Moment
-    ensures { λ r. ⌜ r ≡ dateTimeOf (now (s .entry)) ⌝ }
+pub fn read_date_time(bytes: &[u8]) -> Moment
+    ensures { λ r. ⌜ r ≡ dateTimeOf (now (bytes .entry)) ⌝ }
 {
-    if s.len() != 14 {
+    if bytes.len() != 14 {
         return Moment::Bad;
     }
-    moment_of(&s[0..8], &s[8..14])
+    moment_of(&bytes[0..8], &bytes[8..14])
 }
 
 // Whether there is a moment.
-pub fn is_moment(m: Moment) -> bool
-    ensures { λ r. ⌜ r ≡ isMoment m ⌝ }
+pub fn is_moment(moment: Moment) -> bool
+    ensures { λ r. ⌜ r ≡ isMoment moment ⌝ }
 {
-    match m {
+    match moment {
         Moment::At(_) => true,
         Moment::Bad => false,
     }
 }
 
-// Whether a is a moment later than the moment b.
-pub fn is_later(a: Moment, b: Moment) -> bool
-    ensures { λ r. ⌜ r ≡ isLater a b ⌝ }
+// Whether a moment is later than another.
+pub fn is_later(moment: Moment, other: Moment) -> bool
+    ensures { λ r. ⌜ r ≡ isLater moment other ⌝ }
 {
-    let Moment::At(x) = a else {
+    let Moment::At(x) = moment else {
         return false;
     };
-    let Moment::At(y) = b else {
+    let Moment::At(y) = other else {
         return false;
     };
     y < x

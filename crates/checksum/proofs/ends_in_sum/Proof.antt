@@ -1,7 +1,7 @@
 -- `checksum::ends_in_sum` meets its contract: the part before the last four bytes, and what those are read as.
 use mathlib.Core.Path.{sym}
 use lib.Seq.{length-take-le}
-use Rattle.checksum.proofs.SumLaws.{too-short, compared}
+use Rattle.checksum.proofs.SumLaws.{too-short, digits-read, no-digits}
 use borrow.Author.Needs.{needs}
 use Rattle.checksum.proofs.ends_in_sum.Statement.{statement}
 use Rattle.checksum.proofs.ends_in_sum.Tie as tie
@@ -15,5 +15,7 @@ ends-in-sum-spec =
     (λ c. sym (length-take-le _ _ (search needs)))
     (λ c κs. search needs)
     (λ c κs. search needs)
-    (λ c κs. search needs)
-    (λ c. search compared))
+    (λ c. search needs)
+    (λ c. search needs)
+    (λ c. search digits-read)
+    (λ c. search no-digits))

@@ -29,5 +29,5 @@ decimal-spec =
     (λ c. let l = c .before .before .before in omega (arith, dec-fits (l .loop .v) (l .loop .i) (l .loop .inv .1) (search needs), c .before .shared-slice-known2 .given (l .loop .i)))
     (λ c. search needs)
     (λ c. search needs)
-    (λ c. let l = c .before .before .before in let s = now (l .before .before .args .s) in (search needs, rw (c .digit-value .ensures) (dec-room (l .loop .v) (l .loop .i) (getD s (l .loop .i) 0) (l .loop .inv .1) (omega (arith, c .before .shared-slice-known2 .given (l .loop .i)))), search dec-turn))
+    (λ c. let l = c .before .before .before in let s = now (l .before .before .args .digits) in (search needs, rw (c .digit-value .ensures) (dec-room (l .loop .v) (l .loop .i) (getD s (l .loop .i) 0) (l .loop .inv .1) (omega (arith, c .before .shared-slice-known2 .given (l .loop .i)))), search dec-turn))
     (λ c. let l = c .before in (search dec-ended, dec-small (l .loop .v) (l .loop .i) (l .loop .inv .1) (search needs))))

@@ -4,7 +4,7 @@ use denote.Enum.Laws as EL
 use denote.Struct.Laws as LL
 use Rattle.walks.proofs.Walk.{value, leave, fact-and}
 use Rattle.walks.proofs.OneParameter.{Ends, ends-one, meets-one}
-use Rattle.fields.specs.Bounds.{meant}
+use Rattle.fields.specs.Bounds.{fieldValue}
 use Rattle.fields.specs.declared.Field.{Field}
 use Rattle.fields.proofs.Field as field
 use Rattle.fields.proofs.Field.Laws as field′
@@ -34,7 +34,7 @@ module _ {M : Type 1} (𝓤 : URA M) (H : Heap 𝓤) (A : Atoms 𝓤) (mem : Mem
 
       -- what `last_field` ensures of the field f
       abbrev Means : Field → Type 0
-      Means f = meant (d .payload .now) f ≡ lastAt (d .payload .now) (d .at)
+      Means f = fieldValue (d .payload .now) f ≡ lastAt (d .payload .now) (d .at)
 
       typed : Holds (hasTy (reader′.mir (named 0)) v) × WT v
       typed = LL.lawful (reader.the-type (namedLft 1 0 tt (κ, tt))) (reader′.the-laws (namedLft 1 0 tt (κ, tt))) 𝓤 H A W .typed d _ is .0

@@ -4,7 +4,7 @@ use denote.Enum.Laws as EL
 use denote.Struct.Laws as LL
 use Rattle.walks.proofs.Walk.{value, leave, fact-and, says-all}
 use Rattle.fields.specs.Values.{valueAt, nextAt}
-use Rattle.fields.specs.Bounds.{meant}
+use Rattle.fields.specs.Bounds.{fieldValue}
 use Rattle.fields.specs.declared.Read.{Read}
 use Rattle.fields.proofs.Field as field
 use Rattle.fields.proofs.Field.Laws as field′
@@ -59,7 +59,7 @@ module _ {M : Type 1} (𝓤 : URA M) (H : Heap 𝓤) (A : Atoms 𝓤) (mem : Mem
 
       -- what `read_field` ensures of the field, and of the place after it
       abbrev Means : Read → Type 0
-      Means r = meant (d .payload .now) (r .field) ≡ valueAt (d .payload .now) (d .at)
+      Means r = fieldValue (d .payload .now) (r .field) ≡ valueAt (d .payload .now) (d .at)
 
       abbrev After : Read → Type 0
       After r = r .next ≡ nextAt (d .payload .now) (d .at)

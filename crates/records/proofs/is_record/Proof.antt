@@ -1,5 +1,5 @@
 -- `records::is_record` meets its contract, a law a return.
-use Rattle.records.proofs.ParseLaws.{other-type, bad-sum, bad-end, unprintable, no-type, other-count, a-record}
+use Rattle.records.proofs.ParseLaws.{too-short, no-room, other-type, bad-sum, parsed}
 use borrow.Author.Needs.{needs}
 use Rattle.records.proofs.is_record.Statement.{statement}
 use Rattle.records.proofs.is_record.Tie as tie
@@ -8,18 +8,13 @@ pub is-record-spec : {M : Type 1} → statement M
 is-record-spec =
     tie.close
     (tie.spec
-    (λ c κs. search needs)
+    (λ c. search too-short)
+    (λ c. search needs)
+    (λ c. search no-room)
     (λ c κs. search needs)
     (λ c. search other-type)
     (λ c κs. search needs)
     (λ c. search bad-sum)
     (λ c κs. search needs)
     (λ c κs. search needs)
-    (λ c. search bad-end)
-    (λ c κs. search needs)
-    (λ c. search unprintable)
-    (λ c κs. search needs)
-    (λ c. search no-type)
-    (λ c. search needs)
-    (λ c. search other-count)
-    (λ c. search a-record))
+    (λ c. search parsed))

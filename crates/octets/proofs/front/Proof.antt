@@ -1,8 +1,8 @@
--- `slot_rows::front` meets its contract: all of s, or the part of n bytes.
-use Rattle.slot_rows.proofs.PadLaws.{whole, part, part-short}
+-- `octets::front` meets its contract: all of the bytes, or the part of so many.
+use Rattle.octets.proofs.StringLaws.{whole, part, part-short}
 use borrow.Author.Needs.{needs}
-use Rattle.slot_rows.proofs.front.Statement.{statement}
-use Rattle.slot_rows.proofs.front.Tie as tie
+use Rattle.octets.proofs.front.Statement.{statement}
+use Rattle.octets.proofs.front.Tie as tie
 
 pub front-spec : {M : Type 1} → statement M
 front-spec =
