@@ -49,13 +49,13 @@ fn free_one(cards: &mut [[u8; 256]], at: usize, owner: usize, slot: usize)
     }
 }
 
-// Clears each of the first m cards whose owner is the slot.
-pub fn free_owned(cards: &mut [[u8; 256]], owners: [usize; 32], m: usize, slot: usize)
-    requires { ⌜ (m ≤ 32) × (m ≤ length (now cards)) ⌝ }
-    ensures { λ _. ⌜ now (cards .exit) ≡ freed slot (take m owners) (now (cards .entry)) ⌝ }
+// Clears each of the first register_count cards whose owner is the slot.
+pub fn free_owned(cards: &mut [[u8; 256]], owners: [usize; 32], register_count: usize, slot: usize)
+    requires { ⌜ («register_count» ≤ 32) × («register_count» ≤ length (now cards)) ⌝ }
+    ensures { λ _. ⌜ now (cards .exit) ≡ freed slot (take «register_count» owners) (now (cards .entry)) ⌝ }
 {
     let mut at = 0;
-    while at < m {
+    while at < register_count {
         free_one(cards, at, owners[at], slot);
         at += 1;
     }
