@@ -1,4 +1,5 @@
-// The rows after a decision (document 01, "Slots and registers"). The tables are changed in one place, and a row at a time but for the two sweeps.
+// The rows after a decision (document 01, "Slots and registers"). The tables are changed in one place, and a row at
+// a time but for the two sweeps.
 use card_writer::Stored;
 use engine::Decision;
 use rows::SlotRow;
@@ -8,7 +9,8 @@ ghost use mathlib.Core.Path.{_≡_};
 ghost use lib.ListN.{length};
 ghost use Rattle.fields.specs.Values.{valuesOf};
 ghost use Rattle.row_index.specs.Lent.{rowsWith};
-ghost use Rattle.changes.specs.Changes.{slotsAfter, registersAfter, CanChangeSlots, CanChangeRegisters, HasStored};
+ghost use Rattle.changes.specs.Changes.{slotsAfter, registersAfter};
+ghost use Rattle.changes.specs.Changes.{CanChangeSlots, CanChangeRegisters, HasStored};
 
 // The slot rows after a decision on a request with a payload.
 pub fn change_slots(
@@ -59,8 +61,9 @@ fn no_card() -> Stored
     }
 }
 
-// Changes the cards of the register rows, the first register_count of them the caller's, by a decision on a request with a payload; owners are the numbers of the slots that own them.
-// Answers the card that SM?KL stored, so that its response need not make it again.
+// Changes the cards of the register rows, the first register_count of them the caller's, by a decision on a request
+// with a payload; owners are the numbers of the slots that own them. Answers the card that SM?KL stored, so that
+// its response need not make it again.
 pub fn change_registers(
     decision: Decision,
     cards: &mut [[u8; 256]],
@@ -69,8 +72,12 @@ pub fn change_registers(
     supplement: Supplement,
     payload: &[u8],
 ) -> Stored
-    requires { ⌜ (length (now cards) ≡ 32) × CanChangeRegisters decision «register_count» owners (rowsWith (now cards)) supplement (valuesOf (now payload)) ⌝ }
-    ensures { λ _. ⌜ rowsWith (now (cards .exit)) ≡ registersAfter decision «register_count» (rowsWith (now (cards .entry))) supplement (valuesOf (now (payload .entry))) ⌝ }
+    requires { ⌜ (length (now cards) ≡ 32)
+        × CanChangeRegisters decision «register_count» owners (rowsWith (now cards)) supplement
+        (valuesOf (now payload)) ⌝ }
+    ensures { λ _. ⌜ rowsWith (now (cards .exit))
+        ≡ registersAfter decision «register_count» (rowsWith (now (cards .entry))) supplement
+        (valuesOf (now (payload .entry))) ⌝ }
     ensures stored { λ s. ⌜ HasStored decision s supplement (valuesOf (now (payload .entry))) ⌝ }
 {
     match decision {

@@ -1,4 +1,5 @@
-// The rows that a caller lends, of any number, taken into tables by value and put back (document 01, "What the caller lends"). A row is copied from place to place, one at a time.
+// The rows that a caller lends, of any number, taken into tables by value and put back (document 01, "What the
+// caller lends"). A row is copied from place to place, one at a time.
 use rows::RegisterRow;
 use rows::SlotRow;
 ghost use mathlib.Core.Path.{_≡_};

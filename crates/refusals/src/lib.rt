@@ -17,7 +17,7 @@ ghost use Rattle.refusals.specs.Tellings.{CanTell};
 fn km_text(number: u8) -> [u8; 5]
     ensures { λ v. ⌜ string v ∷ [] ≡ km number ⌝ }
 {
-    [b'K', b'M', b'.', 48 + number / 10, 48 + number % 10]
+    [b'K', b'M', b'.', b'0' + number / 10, b'0' + number % 10]
 }
 
 // SM.3B. and a digit's character.
@@ -30,7 +30,9 @@ fn sm_text(digit: u8) -> [u8; 7]
 // Writes the response to a refusal with a number under a header, and answers its length.
 fn tell(response: &mut [u8], header: &[u8], t: Telling, number: u8) -> usize
     requires { ⌜ (3 ≤ length (now header)) × (length (now header) + 16 ≤ length (now response)) ⌝ }
-    ensures { λ r. ⌜ Wrote (now (response .entry)) 0 (responseBytes (now (header .entry)) (statusIn t) (textIn t number)) (now (response .exit)) r ⌝ }
+    ensures { λ r. ⌜ Wrote (now (response .entry)) 0
+        (responseBytes (now (header .entry)) (statusIn t) (textIn t number))
+        (now (response .exit)) r ⌝ }
     ensures fits { λ r. ⌜ r ≤ length (now (response .entry)) ⌝ }
 {
     match t {
@@ -50,10 +52,13 @@ fn tell(response: &mut [u8], header: &[u8], t: Telling, number: u8) -> usize
     }
 }
 
-// Writes the response to a refused request, and answers its length: nothing for refusals 1 to 4, and under GL!ER for 5 to 7.
+// Writes the response to a refused request, and answers its length: nothing for refusals 1 to 4, and under GL!ER
+// for 5 to 7.
 pub fn refuse(response: &mut [u8], request: &[u8], reason: Refusal) -> usize
     requires { ⌜ CanTell (refusal reason .header) (length (now request)) (length (now response)) ⌝ }
-    ensures { λ n. ⌜ Wrote (now (response .entry)) 0 (refusalBytes (now (request .entry)) (refusal reason .header) (refusal reason)) (now (response .exit)) n ⌝ }
+    ensures { λ n. ⌜ Wrote (now (response .entry)) 0
+        (refusalBytes (now (request .entry)) (refusal reason .header) (refusal reason))
+        (now (response .exit)) n ⌝ }
     ensures fits { λ n. ⌜ n ≤ length (now (response .entry)) ⌝ }
 {
     let e = refusal_numbers::entry_of(reason);

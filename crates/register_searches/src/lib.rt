@@ -1,4 +1,5 @@
-// The search of the registers (document 01, "Slots and registers"): where a key stands, and the lowest free register, by the numbers that question 3 found.
+// The search of the registers (document 01, "Slots and registers"): where a key stands, and the lowest free
+// register, by the numbers that question 3 found.
 use rows::Place;
 ghost use mathlib.Core.Path.{_≡_};
 ghost use Prim.Native.Nat.{_≤_};

@@ -1,4 +1,5 @@
-// The registers of the table, by their cards (document 01, "Slots and registers"): the cards of rows, the rows with cards, and what SM?KX leaves.
+// The registers of the table, by their cards (document 01, "Slots and registers"): the cards of rows, the rows with
+// cards, and what SM?KX leaves.
 use rows::RegisterRow;
 ghost use mathlib.Core.Path.{_≡_};
 ghost use mathlib.Core.Bool.{cond};
@@ -42,7 +43,8 @@ pub fn rows_of(cards: [[u8; 256]; 32]) -> [RegisterRow; 32]
 // Clears the card at a place where its owner is the slot.
 fn free_one(cards: &mut [[u8; 256]], at: usize, owner: usize, slot: usize)
     requires { ⌜ at < length (now cards) ⌝ }
-    ensures { λ _. ⌜ now (cards .exit) ≡ set (now (cards .entry)) at (cond (eqb owner slot) (replicate 256 0) (getD (now (cards .entry)) at [])) ⌝ }
+    ensures { λ _. ⌜ now (cards .exit) ≡ set (now (cards .entry)) at
+        (cond (eqb owner slot) (replicate 256 0) (getD (now (cards .entry)) at [])) ⌝ }
 {
     if owner == slot {
         cards[at] = [0; 256];

@@ -9,7 +9,9 @@ ghost use Rattle.responses.specs.Responses.{responseBytes};
 // Writes a response without fields, and answers its length.
 pub fn reply(response: &mut [u8], header: &[u8], status: &[u8]) -> usize
     requires { ⌜ (3 ≤ length (now header)) × (length (now header) + length (now status) + 5 ≤ length (now response)) ⌝ }
-    ensures { λ r. ⌜ Wrote (now (response .entry)) 0 (responseBytes (now (header .entry)) (now (status .entry)) []) (now (response .exit)) r ⌝ }
+    ensures { λ r. ⌜ Wrote (now (response .entry)) 0
+        (responseBytes (now (header .entry)) (now (status .entry)) [])
+        (now (response .exit)) r ⌝ }
     ensures fits { λ r. ⌜ r ≤ length (now (response .entry)) ⌝ }
 {
     let end = frame_writer::put_head(response, header, status);
@@ -18,8 +20,11 @@ pub fn reply(response: &mut [u8], header: &[u8], status: &[u8]) -> usize
 
 // Writes a response with a string, and answers its length.
 pub fn reply_text(response: &mut [u8], header: &[u8], status: &[u8], text: &[u8]) -> usize
-    requires { ⌜ (3 ≤ length (now header)) × (length (now header) + length (now status) + length (now text) + 7 ≤ length (now response)) ⌝ }
-    ensures { λ r. ⌜ Wrote (now (response .entry)) 0 (responseBytes (now (header .entry)) (now (status .entry)) (string (now (text .entry)) ∷ [])) (now (response .exit)) r ⌝ }
+    requires { ⌜ (3 ≤ length (now header))
+        × (length (now header) + length (now status) + length (now text) + 7 ≤ length (now response)) ⌝ }
+    ensures { λ r. ⌜ Wrote (now (response .entry)) 0
+        (responseBytes (now (header .entry)) (now (status .entry)) (string (now (text .entry)) ∷ []))
+        (now (response .exit)) r ⌝ }
     ensures fits { λ r. ⌜ r ≤ length (now (response .entry)) ⌝ }
 {
     let a = frame_writer::put_head(response, header, status);
@@ -35,8 +40,13 @@ pub fn reply_texts(
     first: &[u8],
     second: &[u8],
 ) -> usize
-    requires { ⌜ (3 ≤ length (now header)) × (length (now header) + length (now status) + length (now first) + length (now second) + 9 ≤ length (now response)) ⌝ }
-    ensures { λ r. ⌜ Wrote (now (response .entry)) 0 (responseBytes (now (header .entry)) (now (status .entry)) (string (now (first .entry)) ∷ string (now (second .entry)) ∷ [])) (now (response .exit)) r ⌝ }
+    requires { ⌜ (3 ≤ length (now header))
+        × (length (now header) + length (now status) + length (now first) + length (now second) + 9
+        ≤ length (now response)) ⌝ }
+    ensures { λ r. ⌜ Wrote (now (response .entry)) 0
+        (responseBytes (now (header .entry)) (now (status .entry))
+        (string (now (first .entry)) ∷ string (now (second .entry)) ∷ []))
+        (now (response .exit)) r ⌝ }
     ensures fits { λ r. ⌜ r ≤ length (now (response .entry)) ⌝ }
 {
     let a = frame_writer::put_head(response, header, status);
@@ -53,8 +63,11 @@ pub fn reply_number_text(
     integer: u32,
     text: &[u8],
 ) -> usize
-    requires { ⌜ (3 ≤ length (now header)) × (length (now header) + length (now status) + 12 + length (now text) + 2 + 5 ≤ length (now response)) ⌝ }
-    ensures { λ r. ⌜ Wrote (now (response .entry)) 0 (responseBytes (now (header .entry)) (now (status .entry)) (number integer ∷ string (now (text .entry)) ∷ [])) (now (response .exit)) r ⌝ }
+    requires { ⌜ (3 ≤ length (now header))
+        × (length (now header) + length (now status) + 12 + length (now text) + 2 + 5 ≤ length (now response)) ⌝ }
+    ensures { λ r. ⌜ Wrote (now (response .entry)) 0
+        (responseBytes (now (header .entry)) (now (status .entry)) (number integer ∷ string (now (text .entry)) ∷ []))
+        (now (response .exit)) r ⌝ }
     ensures fits { λ r. ⌜ r ≤ length (now (response .entry)) ⌝ }
 {
     let a = frame_writer::put_head(response, header, status);

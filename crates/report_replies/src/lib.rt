@@ -16,7 +16,9 @@ ghost use Rattle.session_replies.specs.Room.{HasRoom};
 // The response to SM?GA, and its length: the stored card, without the zeros after it.
 pub fn respond_card(card: &[u8], request: &[u8], response: &mut [u8]) -> usize
     requires { ⌜ (length (now card) ≤ 256) × HasRoom (length (now request)) (length (now response)) ⌝ }
-    ensures { λ n. ⌜ Wrote (now (response .entry)) 0 (responseBytes (headerOf (now (request .entry))) accepted (string (trimmed (now (card .entry))) ∷ [])) (now (response .exit)) n ⌝ }
+    ensures { λ n. ⌜ Wrote (now (response .entry)) 0
+        (responseBytes (headerOf (now (request .entry))) accepted (string (trimmed (now (card .entry))) ∷ []))
+        (now (response .exit)) n ⌝ }
     ensures fits { λ n. ⌜ n ≤ length (now (response .entry)) ⌝ }
 {
     let shown = slot_tests::trimmed(card);
@@ -31,7 +33,9 @@ pub fn respond_names(
     response: &mut [u8],
 ) -> usize
     requires { ⌜ («slot_count» ≤ 8) × HasRoom (length (now request)) (length (now response)) ⌝ }
-    ensures { λ r. ⌜ Wrote (now (response .entry)) 0 (responseBytes (headerOf (now (request .entry))) accepted (nameFields (slotNames (take «slot_count» slots)))) (now (response .exit)) r ⌝ }
+    ensures { λ r. ⌜ Wrote (now (response .entry)) 0
+        (responseBytes (headerOf (now (request .entry))) accepted (nameFields (slotNames (take «slot_count» slots))))
+        (now (response .exit)) r ⌝ }
     ensures fits { λ r. ⌜ r ≤ length (now (response .entry)) ⌝ }
 {
     slot_lists::reply_names(response, frames::header(request), slots, slot_count)
@@ -47,7 +51,10 @@ pub fn respond_query(
     response: &mut [u8],
 ) -> usize
     requires { ⌜ («register_count» ≤ 32) × HasRoom (length (now request)) (length (now response)) ⌝ }
-    ensures { λ n. ⌜ Wrote (now (response .entry)) 0 (responseBytes (headerOf (now (request .entry))) accepted (slotFields row ++ numberFields (numbersFrom (isThe slot) 1 (take «register_count» owners)))) (now (response .exit)) n ⌝ }
+    ensures { λ n. ⌜ Wrote (now (response .entry)) 0
+        (responseBytes (headerOf (now (request .entry))) accepted
+        (slotFields row ++ numberFields (numbersFrom (isThe slot) 1 (take «register_count» owners))))
+        (now (response .exit)) n ⌝ }
     ensures fits { λ n. ⌜ n ≤ length (now (response .entry)) ⌝ }
 {
     slot_queries::reply_query(

@@ -1,4 +1,5 @@
-// What a command takes out of the payload of a request whose questions are all yeses: its strings, the row that SM?KC makes, and the card that SM?KL stores.
+// What a command takes out of the payload of a request whose questions are all yeses: its strings, the row that
+// SM?KC makes, and the card that SM?KL stores.
 use card_writer::Stored;
 use cards::Found;
 use payloads::TwoTexts;
@@ -68,7 +69,7 @@ pub fn kmcid_text<'a>(payload: &'a [u8]) -> &'a [u8]
     requires { ⌜ areFieldsOf KF (valuesOf (now payload)) ≡ true ⌝ }
     ensures { λ s. ⌜ now s ≡ kmcidOf (valuesOf (now (payload .entry))) ⌝ }
 {
-    records::field(records::field(only_text(payload), 124, 1), 58, 2)
+    records::field(records::field(only_text(payload), b'|', 1), b':', 2)
 }
 
 // The row that SM?KC makes: PENDING, with the record's KMCID and fingerprint and the clock as TVP.
@@ -76,21 +77,22 @@ pub fn pending_row(payload: &[u8], clock: &[u8]) -> SlotRow
     requires { ⌜ areFieldsOf KF (valuesOf (now payload)) ≡ true ⌝ }
     ensures { λ r. ⌜ r ≡ pendingRow (now (clock .entry)) (valuesOf (now (payload .entry))) ⌝ }
 {
-    let identity = records::field(only_text(payload), 124, 1);
+    let identity = records::field(only_text(payload), b'|', 1);
     slot_rows::filled_slot(
         SlotState::Pending,
-        records::field(identity, 58, 2),
-        records::field(identity, 58, 4),
+        records::field(identity, b':', 2),
+        records::field(identity, b':', 4),
         clock,
     )
 }
 
 // The card that SM?KL stores.
 pub fn loaded_card(payload: &[u8], supplement: Supplement) -> Stored
-    requires { ⌜ (areFieldsOf KL (valuesOf (now payload)) ≡ true) × (length (cardOf supplement (valuesOf (now payload))) ≤ 256) ⌝ }
+    requires { ⌜ (areFieldsOf KL (valuesOf (now payload)) ≡ true)
+        × (length (cardOf supplement (valuesOf (now payload))) ≤ 256) ⌝ }
     ensures { λ r. ⌜ r .card ≡ inRow (cardOf supplement (valuesOf (now (payload .entry)))) ⌝ }
     ensures measured { λ r. ⌜ r .length ≡ length (cardOf supplement (valuesOf (now (payload .entry)))) ⌝ }
 {
-    let card = records::field(second_text(payload), 124, 2);
+    let card = records::field(second_text(payload), b'|', 2);
     card_writer::write_card(card, b"0", &supplement.check, first_text(payload), b"0")
 }

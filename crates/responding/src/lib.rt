@@ -31,7 +31,8 @@ pub fn outcome(decision: Decision) -> Outcome
     }
 }
 
-// The response of a decision, and its length: over the slot rows and the cards, with the number of each register's owner.
+// The response of a decision, and its length: over the slot rows and the cards, with the number of each register's
+// owner.
 pub fn respond(
     decision: Decision,
     slots: [SlotRow; 8],
@@ -44,8 +45,13 @@ pub fn respond(
     request: &[u8],
     response: &mut [u8],
 ) -> usize
-    requires { ⌜ (length (now cards) ≡ 32) × CanRespond decision (tablesWith slots «slot_count» (rowsWith (now cards)) «register_count») owners stored supplement (now request) (length (now response)) ⌝ }
-    ensures { λ k. ⌜ Wrote (now (response .entry)) 0 (responseFor decision (tablesWith slots «slot_count» (rowsWith (now (cards .entry))) «register_count») supplement (now (request .entry))) (now (response .exit)) k ⌝ }
+    requires { ⌜ (length (now cards) ≡ 32)
+        × CanRespond decision (tablesWith slots «slot_count» (rowsWith (now cards)) «register_count»)
+        owners stored supplement (now request) (length (now response)) ⌝ }
+    ensures { λ k. ⌜ Wrote (now (response .entry)) 0
+        (responseFor decision (tablesWith slots «slot_count» (rowsWith (now (cards .entry))) «register_count»)
+        supplement (now (request .entry)))
+        (now (response .exit)) k ⌝ }
     ensures fits { λ k. ⌜ k ≤ length (now (response .entry)) ⌝ }
 {
     match decision {

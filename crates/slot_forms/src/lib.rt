@@ -1,4 +1,5 @@
-// What question 3 asks of one slot row (document 01, "Slots and registers"): whether it is free with every byte zero, or filled in form.
+// What question 3 asks of one slot row (document 01, "Slots and registers"): whether it is free with every byte
+// zero, or filled in form.
 use forms::Form;
 use rows::SlotRow;
 use rows::SlotState;
@@ -38,7 +39,8 @@ pub fn is_zero_slot(row: SlotRow) -> bool
 
 // Whether the bytes are a KMCID with zeros after it.
 fn is_kmcid(bytes: &[u8]) -> bool
-    ensures { λ b. ⌜ b ≡ (isIdentifier (trimmed (now (bytes .entry))) && areAll Zero (drop (run (isNot 0) (now (bytes .entry))) (now (bytes .entry)))) ⌝ }
+    ensures { λ b. ⌜ b ≡ (isIdentifier (trimmed (now (bytes .entry)))
+        && areAll Zero (drop (run (isNot 0) (now (bytes .entry))) (now (bytes .entry)))) ⌝ }
 {
     let end = pieces::piece_end(bytes, 0, 0);
     if !text::is_identifier(&bytes[0..end]) {

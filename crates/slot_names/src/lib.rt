@@ -1,10 +1,12 @@
-// The slots' names as they are kept, zeros after them (document 01, "Slots and registers"): the number of the one that a name is, and whether no two are one.
+// The slots' names as they are kept, zeros after them (document 01, "Slots and registers"): the number of the one
+// that a name is, and whether no two are one.
 ghost use mathlib.Core.Path.{_≡_};
 ghost use Rattle.rows.specs.Lists.{distinctRows};
 ghost use Rattle.rows.specs.Index.{isCalled, isSameName};
 ghost use Rattle.row_index.specs.Found.{numberOf};
 
-// Whether a kept name is the name. Names mostly differ in their last byte, so that is compared before the name's end is looked for.
+// Whether a kept name is the name. Names mostly differ in their last byte, so that is compared before the name's
+// end is looked for.
 pub fn is_called(kept: &[u8], name: &[u8]) -> bool
     ensures { λ b. ⌜ b ≡ isCalled (now (name .entry)) (now (kept .entry)) ⌝ }
 {

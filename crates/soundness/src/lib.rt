@@ -1,5 +1,6 @@
-// Question 3 (document 01, "Questions in order"): whether the rows are sound. Rows that are sound by themselves are compared by their names and keys alone; what is found of the
-// registers serves the questions after it, so that no card is searched again.
+// Question 3 (document 01, "Questions in order"): whether the rows are sound. Rows that are sound by themselves are
+// compared by their names and keys alone; what is found of the registers serves the questions after it, so that no
+// card is searched again.
 use register_keys::Findings;
 use rows::SlotRow;
 ghost use mathlib.Core.Path.{_≡_};
@@ -23,12 +24,16 @@ pub fn unsound() -> Findings
     }
 }
 
-// Whether the first slot_count slot rows and the register rows with these cards are sound; and where they are, the keys of the registers and the numbers of their slots.
+// Whether the first slot_count slot rows and the register rows with these cards are sound; and where they are, the
+// keys of the registers and the numbers of their slots.
 pub fn find(slots: [SlotRow; 8], slot_count: usize, cards: &[[u8; 256]]) -> Findings
     requires { ⌜ («slot_count» ≤ 8) × (length (now cards) ≤ 32) ⌝ }
     ensures { λ f. ⌜ f .sound ≡ areSound (take «slot_count» slots) (rowsWith (now (cards .entry))) ⌝ }
-    ensures keys { λ f. ⌜ (f .sound ≡ true → take (length (now (cards .entry))) (f .keys) ≡ map keyNumber (rowsWith (now (cards .entry)))) ⌝ }
-    ensures owners { λ f. ⌜ (f .sound ≡ true → take (length (now (cards .entry))) (f .owners) ≡ map (ownerNumber (map keptName (take «slot_count» slots))) (rowsWith (now (cards .entry)))) ⌝ }
+    ensures keys { λ f. ⌜ (f .sound ≡ true
+        → take (length (now (cards .entry))) (f .keys) ≡ map keyNumber (rowsWith (now (cards .entry)))) ⌝ }
+    ensures owners { λ f. ⌜ (f .sound ≡ true
+        → take (length (now (cards .entry))) (f .owners)
+        ≡ map (ownerNumber (map keptName (take «slot_count» slots))) (rowsWith (now (cards .entry)))) ⌝ }
 {
     if !slot_tables::are_slots_sound(slots, slot_count) {
         return unsound();
