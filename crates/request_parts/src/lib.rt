@@ -13,7 +13,7 @@ ghost use lib.ListN.{length};
 ghost use Rattle.fields.specs.Values.{valuesOf};
 ghost use Rattle.stored_cards.specs.Stored.{inRow};
 ghost use Rattle.commands.specs.declared.Command.the-variants.{KF, KL};
-ghost use Rattle.engine.specs.Requests.{areFieldsOf, firstText, secondText};
+ghost use Rattle.engine.specs.Requests.{areFieldsOf, firstText};
 ghost use Rattle.request_parts.specs.Parts.{kmcidOf, pendingRow, cardOf};
 
 // The only string.
@@ -26,42 +26,6 @@ pub fn only_text<'a>(payload: &'a [u8]) -> &'a [u8]
         return &payload[0..0];
     };
     &payload[start..end]
-}
-
-// The first of two strings.
-pub fn first_text<'a>(payload: &'a [u8]) -> &'a [u8]
-    requires { ⌜ areFieldsOf KL (valuesOf (now payload)) ≡ true ⌝ }
-    ensures { λ s. ⌜ now s ≡ firstText (valuesOf (now (payload .entry))) ⌝ }
-{
-    let f = payloads::two_texts(payload);
-    let TwoTexts::At {
-        start,
-        end,
-        from,
-        to,
-    } = f
-    else {
-        return &payload[0..0];
-    };
-    &payload[start..end]
-}
-
-// The second of two strings.
-pub fn second_text<'a>(payload: &'a [u8]) -> &'a [u8]
-    requires { ⌜ areFieldsOf KL (valuesOf (now payload)) ≡ true ⌝ }
-    ensures { λ s. ⌜ now s ≡ secondText (valuesOf (now (payload .entry))) ⌝ }
-{
-    let f = payloads::two_texts(payload);
-    let TwoTexts::At {
-        start,
-        end,
-        from,
-        to,
-    } = f
-    else {
-        return &payload[0..0];
-    };
-    &payload[from..to]
 }
 
 // The KMCID in the KMC identity of the only string, a record.
@@ -86,13 +50,26 @@ pub fn pending_row(payload: &[u8], clock: &[u8]) -> SlotRow
     )
 }
 
-// The card that SM?KL stores.
+// The card that SM?KL stores: of the card in its second string, a record, with the slot, its first string, as KSL.
 pub fn loaded_card(payload: &[u8], supplement: Supplement) -> Stored
     requires { ⌜ (areFieldsOf KL (valuesOf (now payload)) ≡ true)
         × (length (cardOf supplement (valuesOf (now payload))) ≤ 256) ⌝ }
     ensures { λ r. ⌜ r .card ≡ inRow (cardOf supplement (valuesOf (now (payload .entry)))) ⌝ }
     ensures measured { λ r. ⌜ r .length ≡ length (cardOf supplement (valuesOf (now (payload .entry)))) ⌝ }
 {
-    let card = records::field(second_text(payload), b'|', 2);
-    card_writer::write_card(card, b"0", &supplement.check, first_text(payload), b"0")
+    let f = payloads::two_texts(payload);
+    let TwoTexts::At {
+        start,
+        end,
+        from,
+        to,
+    } = f
+    else {
+        return Stored {
+            card: [0; 256],
+            length: 0,
+        };
+    };
+    let card = records::field(&payload[from..to], b'|', 2);
+    card_writer::write_card(card, b"0", &supplement.check, &payload[start..end], b"0")
 }
