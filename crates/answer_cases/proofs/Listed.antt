@@ -5,7 +5,7 @@ use mathlib.Core.Bool.{Bool, true, false, cond, not, _||_, Bool-set}
 use mathlib.Core.List.{List, [], _∷_, map, Perm, Perm·mem-iff, Perm·symm, Perm·nodup, List·Mem, List·Nodup, nodup-nil, nodup-cons, not-mem-nil, eq-or-mem-of-mem-cons, mem-cons-self, mem-cons-of-mem, mem-cast}
 use Prim.Native.Nat.{ℕ}
 use Rattle.octets.specs.Strings.{sameBytes}
-use Rattle.octets.proofs.Flags.{nope, and-first, and-second, or-cases}
+use Rattle.octets.proofs.Flags.{nope, and-first, and-second, or-cases, or-second}
 use Rattle.octets.proofs.StringLaws.{same-self, same-equal}
 use Rattle.rows.specs.Lists.{everyRow, someRow, distinctRows, rowsThat}
 use Rattle.rows.specs.Slots.{hasState, kmcidOf, isNamed, isSlotSound, isSameSlot}
@@ -21,10 +21,6 @@ told rows = rowsThat (λ (r : SlotRow). not (hasState Free r)) rows
 or-here : (a b : Bool) → a ≡ true → (a || b) ≡ true
 or-here a b e = rw e refl
 
-or-later : (a b : Bool) → b ≡ true → (a || b) ≡ true
-or-later true b e = refl
-or-later false b e = e
-
 -- a name that is told is that of a slot that is not free,
 told-named : (s : List ℕ) (rows : List SlotRow) → List·Mem s (slotNames rows) → someRow (isNamed s) rows ≡ true
 unfolding slotNames isNamed
@@ -32,11 +28,11 @@ told-named s [] m = absurd (not-mem-nil m)
 told-named s (x ∷ xs) m = go (hasState Free x) refl m (told-named s xs)
   where
     go : (t : Bool) → hasState Free x ≡ t → List·Mem s (map kmcidOf (cond (not t) (x ∷ told xs) (told xs))) → (List·Mem s (slotNames xs) → someRow (isNamed s) xs ≡ true) → someRow (isNamed s) (x ∷ xs) ≡ true
-    go true q w more = or-later (isNamed s x) (someRow (isNamed s) xs) (more w)
+    go true q w more = or-second (isNamed s x) (someRow (isNamed s) xs) (more w)
     go false q w more =
         Or·elim (Bool-set (someRow (isNamed s) (x ∷ xs)) true) (eq-or-mem-of-mem-cons w)
         (λ e. or-here (isNamed s x) (someRow (isNamed s) xs) (rw (q, e) (same-self (kmcidOf x))))
-        (λ k. or-later (isNamed s x) (someRow (isNamed s) xs) (more k))
+        (λ k. or-second (isNamed s x) (someRow (isNamed s) xs) (more k))
 
 -- and the name of every such slot is told
 named-told : (s : List ℕ) (rows : List SlotRow) → someRow (isNamed s) rows ≡ true → List·Mem s (slotNames rows)

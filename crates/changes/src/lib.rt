@@ -1,4 +1,5 @@
-// The rows after a decision (document 01, "Slots and registers"). The tables are changed in one place, and a row at a time but for the two sweeps.
+// The rows after a decision (document 01, "Slots and registers"). The tables are changed in one place, and a row at
+// a time but for the two sweeps.
 use card_writer::Stored;
 use engine::Decision;
 use rows::SlotRow;
@@ -8,44 +9,45 @@ ghost use mathlib.Core.Path.{_≡_};
 ghost use lib.ListN.{length};
 ghost use Rattle.fields.specs.Values.{valuesOf};
 ghost use Rattle.row_index.specs.Lent.{rowsWith};
-ghost use Rattle.changes.specs.Changes.{slotsAfter, registersAfter, CanChangeSlots, CanChangeRegisters, HasStored};
+ghost use Rattle.changes.specs.Changes.{slotsAfter, registersAfter};
+ghost use Rattle.changes.specs.Changes.{CanChangeSlots, CanChangeRegisters, HasStored};
 
-// The slot rows after a decision on a request with the payload p.
+// The slot rows after a decision on a request with a payload.
 pub fn change_slots(
-    d: Decision,
+    decision: Decision,
     slots: [SlotRow; 8],
-    n: usize,
-    x: Supplement,
-    p: &[u8],
+    slot_count: usize,
+    supplement: Supplement,
+    payload: &[u8],
 ) -> [SlotRow; 8]
-    requires { ⌜ CanChangeSlots d n (valuesOf (now p)) ⌝ }
-    ensures { λ u. ⌜ u ≡ slotsAfter d n slots x (valuesOf (now (p .entry))) ⌝ }
+    requires { ⌜ CanChangeSlots decision «slot_count» (valuesOf (now payload)) ⌝ }
+    ensures { λ after. ⌜ after ≡ slotsAfter decision «slot_count» slots supplement (valuesOf (now (payload .entry))) ⌝ }
 {
-    let mut u = slots;
-    match d {
-        Decision::Reset => slot_tables::reset_slots(slots, n),
+    let mut after = slots;
+    match decision {
+        Decision::Reset => slot_tables::reset_slots(slots, slot_count),
         Decision::Pend(k) => {
-            u[k] = request_parts::pending_row(p, &x.clock);
-            u
+            after[k] = request_parts::pending_row(payload, &supplement.clock);
+            after
         }
         Decision::Open(k) => {
-            u[k] = slot_rows::moved_slot(SlotState::Loading, slots[k]);
-            u
+            after[k] = slot_rows::moved_slot(SlotState::Loading, slots[k]);
+            after
         }
         Decision::Finish(k) => {
-            u[k] = slot_rows::moved_slot(SlotState::Idle, slots[k]);
-            u
+            after[k] = slot_rows::moved_slot(SlotState::Idle, slots[k]);
+            after
         }
         Decision::Delete(k) => {
-            u[k] = slot_rows::free_slot();
-            u
+            after[k] = slot_rows::free_slot();
+            after
         }
         Decision::Refuse(_)
         | Decision::Load(_)
         | Decision::Clear(_)
         | Decision::Show(_)
         | Decision::Enumerate
-        | Decision::Query(_) => u,
+        | Decision::Query(_) => after,
     }
 }
 
@@ -59,29 +61,34 @@ fn no_card() -> Stored
     }
 }
 
-// Changes the cards of the register rows, the first m of them the caller's, by a decision on a request with the payload p; owners are the numbers of the slots that own them.
-// Answers the card that SM?KL stored, so that its response need not make it again.
+// Changes the cards of the register rows, the first register_count of them the caller's, by a decision on a request
+// with a payload; owners are the numbers of the slots that own them. Answers the card that SM?KL stored, so that
+// its response need not make it again.
 pub fn change_registers(
-    d: Decision,
+    decision: Decision,
     cards: &mut [[u8; 256]],
-    m: usize,
+    register_count: usize,
     owners: [usize; 32],
-    x: Supplement,
-    p: &[u8],
+    supplement: Supplement,
+    payload: &[u8],
 ) -> Stored
-    requires { ⌜ (length (now cards) ≡ 32) × CanChangeRegisters d m owners (rowsWith (now cards)) x (valuesOf (now p)) ⌝ }
-    ensures { λ _. ⌜ rowsWith (now (cards .exit)) ≡ registersAfter d m (rowsWith (now (cards .entry))) x (valuesOf (now (p .entry))) ⌝ }
-    ensures stored { λ s. ⌜ HasStored d s x (valuesOf (now (p .entry))) ⌝ }
+    requires { ⌜ (length (now cards) ≡ 32)
+        × CanChangeRegisters decision «register_count» owners (rowsWith (now cards)) supplement
+        (valuesOf (now payload)) ⌝ }
+    ensures { λ _. ⌜ rowsWith (now (cards .exit))
+        ≡ registersAfter decision «register_count» (rowsWith (now (cards .entry))) supplement
+        (valuesOf (now (payload .entry))) ⌝ }
+    ensures stored { λ s. ⌜ HasStored decision s supplement (valuesOf (now (payload .entry))) ⌝ }
 {
-    match d {
+    match decision {
         Decision::Load(k) => {
-            let s = request_parts::loaded_card(p, x);
+            let s = request_parts::loaded_card(payload, supplement);
             let card = s.card;
             cards[k] = card;
             s
         }
         Decision::Delete(k) => {
-            register_tables::free_owned(cards, owners, m, k + 1);
+            register_tables::free_owned(cards, owners, register_count, k + 1);
             no_card()
         }
         Decision::Clear(k) => {

@@ -1,4 +1,4 @@
--- The tables that lent rows are taken into.
+-- The tables that lent rows are taken into (document 01, What the caller lends).
 use Prim.Native.Nat.{ℕ}
 use mathlib.Core.List.{List, _++_}
 use lib.ListN.{length, take, drop, replicate}

@@ -1,4 +1,5 @@
-// The rows that a caller lends, of any number, taken into tables by value and put back (document 01, "What the caller lends"). A row is copied from place to place, one at a time.
+// The rows that a caller lends, of any number, taken into tables by value and put back (document 01, "What the
+// caller lends"). A row is copied from place to place, one at a time.
 use rows::RegisterRow;
 use rows::SlotRow;
 ghost use mathlib.Core.Path.{_≡_};
@@ -17,80 +18,80 @@ pub struct RegisterTable {
     pub count: usize,
 }
 
-// How many of n rows have one of m places.
-fn placed(n: usize, m: usize) -> usize
-    ensures { λ r. ⌜ r ≡ min n m ⌝ }
+// How many rows have one of the places.
+fn placed(count: usize, places: usize) -> usize
+    ensures { λ r. ⌜ r ≡ min count places ⌝ }
 {
-    if n < m { n } else { m }
+    if count < places { count } else { places }
 }
 
-// A table of free rows, for n rows of the caller's.
-fn free_slots(n: usize) -> SlotTable
-    ensures { λ t. ⌜ t ≡ freeSlotTable n ⌝ }
+// A table of free rows, for as many rows of the caller's as count says.
+fn free_slots(count: usize) -> SlotTable
+    ensures { λ t. ⌜ t ≡ freeSlotTable count ⌝ }
 {
     let free = slot_rows::free_slot();
     SlotTable {
         rows: [free; 8],
-        count: n,
+        count,
     }
 }
 
-fn free_registers(n: usize) -> RegisterTable
-    ensures { λ t. ⌜ t ≡ freeRegisterTable n ⌝ }
+fn free_registers(count: usize) -> RegisterTable
+    ensures { λ t. ⌜ t ≡ freeRegisterTable count ⌝ }
 {
     let free = register_rows::free_register();
     RegisterTable {
         rows: [free; 32],
-        count: n,
+        count,
     }
 }
 
 // The lent rows by value, as far as there are places.
-pub fn load_slots(rs: &[SlotRow]) -> SlotTable
-    ensures { λ t. ⌜ t ≡ slotTable (now (rs .entry)) ⌝ }
+pub fn load_slots(slots: &[SlotRow]) -> SlotTable
+    ensures { λ table. ⌜ table ≡ slotTable (now (slots .entry)) ⌝ }
 {
-    let n = placed(rs.len(), 8);
-    let mut t = free_slots(rs.len());
+    let n = placed(slots.len(), 8);
+    let mut table = free_slots(slots.len());
     let mut i = 0;
     while i < n {
-        t.rows[i] = rs[i];
+        table.rows[i] = slots[i];
         i += 1;
     }
-    t
+    table
 }
 
-pub fn load_registers(rs: &[RegisterRow]) -> RegisterTable
-    ensures { λ t. ⌜ t ≡ registerTable (now (rs .entry)) ⌝ }
+pub fn load_registers(registers: &[RegisterRow]) -> RegisterTable
+    ensures { λ table. ⌜ table ≡ registerTable (now (registers .entry)) ⌝ }
 {
-    let n = placed(rs.len(), 32);
-    let mut t = free_registers(rs.len());
+    let n = placed(registers.len(), 32);
+    let mut table = free_registers(registers.len());
     let mut i = 0;
     while i < n {
-        t.rows[i] = rs[i];
+        table.rows[i] = registers[i];
         i += 1;
     }
-    t
+    table
 }
 
 // The lent rows overwritten, as far as there are places; those beyond keep their value.
-pub fn store_slots(rs: &mut [SlotRow], t: SlotTable)
-    ensures { λ _. ⌜ now (rs .exit) ≡ overlay (t .rows) (now (rs .entry)) ⌝ }
+pub fn store_slots(slots: &mut [SlotRow], table: SlotTable)
+    ensures { λ _. ⌜ now (slots .exit) ≡ overlay (table .rows) (now (slots .entry)) ⌝ }
 {
-    let n = placed(rs.len(), 8);
+    let n = placed(slots.len(), 8);
     let mut i = 0;
     while i < n {
-        rs[i] = t.rows[i];
+        slots[i] = table.rows[i];
         i += 1;
     }
 }
 
-pub fn store_registers(rs: &mut [RegisterRow], t: RegisterTable)
-    ensures { λ _. ⌜ now (rs .exit) ≡ overlay (t .rows) (now (rs .entry)) ⌝ }
+pub fn store_registers(registers: &mut [RegisterRow], table: RegisterTable)
+    ensures { λ _. ⌜ now (registers .exit) ≡ overlay (table .rows) (now (registers .entry)) ⌝ }
 {
-    let n = placed(rs.len(), 32);
+    let n = placed(registers.len(), 32);
     let mut i = 0;
     while i < n {
-        rs[i] = t.rows[i];
+        registers[i] = table.rows[i];
         i += 1;
     }
 }

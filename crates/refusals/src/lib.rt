@@ -14,56 +14,61 @@ ghost use Rattle.refusal_numbers.specs.Tellings.{statusIn, fieldsIn, sm};
 ghost use Rattle.refusals.specs.Tellings.{CanTell};
 
 // KM. and a number in two digits.
-fn km_text(n: u8) -> [u8; 5]
-    ensures { λ v. ⌜ string v ∷ [] ≡ km n ⌝ }
+fn km_text(number: u8) -> [u8; 5]
+    ensures { λ v. ⌜ string v ∷ [] ≡ km number ⌝ }
 {
-    [b'K', b'M', b'.', 48 + n / 10, 48 + n % 10]
+    [b'K', b'M', b'.', b'0' + number / 10, b'0' + number % 10]
 }
 
 // SM.3B. and a digit's character.
-fn sm_text(d: u8) -> [u8; 7]
-    ensures { λ v. ⌜ string v ∷ [] ≡ sm d ⌝ }
+fn sm_text(digit: u8) -> [u8; 7]
+    ensures { λ v. ⌜ string v ∷ [] ≡ sm digit ⌝ }
 {
-    [b'S', b'M', b'.', b'3', b'B', b'.', d]
+    [b'S', b'M', b'.', b'3', b'B', b'.', digit]
 }
 
-// Writes the response to a refusal with number n under a header, and answers its length.
-fn tell(dst: &mut [u8], header: &[u8], t: Telling, n: u8) -> usize
-    requires { ⌜ (3 ≤ length (now header)) × (length (now header) + 16 ≤ length (now dst)) ⌝ }
-    ensures { λ r. ⌜ Wrote (now (dst .entry)) 0 (responseBytes (now (header .entry)) (statusIn t) (fieldsIn t n)) (now (dst .exit)) r ⌝ }
-    ensures fits { λ r. ⌜ r ≤ length (now (dst .entry)) ⌝ }
+// Writes the response to a refusal with a number under a header, and answers its length.
+fn tell(response: &mut [u8], header: &[u8], t: Telling, number: u8) -> usize
+    requires { ⌜ (3 ≤ length (now header)) × (length (now header) + 16 ≤ length (now response)) ⌝ }
+    ensures { λ r. ⌜ Wrote (now (response .entry)) 0
+        (responseBytes (now (header .entry)) (statusIn t) (fieldsIn t number))
+        (now (response .exit)) r ⌝ }
+    ensures fits { λ r. ⌜ r ≤ length (now (response .entry)) ⌝ }
 {
     match t {
-        Telling::Nothing => replies::reply(dst, header, b""),
+        Telling::Nothing => replies::reply(response, header, b""),
         Telling::Status(a, b) => {
             let s = [a, b];
-            replies::reply(dst, header, &s)
+            replies::reply(response, header, &s)
         }
         Telling::Numbered => {
-            let v = km_text(n);
-            replies::reply_text(dst, header, b"EE", &v)
+            let v = km_text(number);
+            replies::reply_text(response, header, b"EE", &v)
         }
         Telling::Module(d) => {
             let v = sm_text(d);
-            replies::reply_text(dst, header, b"EE", &v)
+            replies::reply_text(response, header, b"EE", &v)
         }
     }
 }
 
-// Writes the response to a refused request, and answers its length: nothing for refusals 1 to 4, and under GL!ER for 5 to 7.
-pub fn refuse(dst: &mut [u8], request: &[u8], r: Refusal) -> usize
-    requires { ⌜ CanTell (refusal r .header) (length (now request)) (length (now dst)) ⌝ }
-    ensures { λ n. ⌜ Wrote (now (dst .entry)) 0 (responseOf (refusalReply (now (request .entry)) r)) (now (dst .exit)) n ⌝ }
-    ensures fits { λ n. ⌜ n ≤ length (now (dst .entry)) ⌝ }
+// Writes the response to a refused request, and answers its length: nothing for refusals 1 to 4, and under GL!ER
+// for 5 to 7.
+pub fn refuse(response: &mut [u8], request: &[u8], reason: Refusal) -> usize
+    requires { ⌜ CanTell (refusal reason .header) (length (now request)) (length (now response)) ⌝ }
+    ensures { λ n. ⌜ Wrote (now (response .entry)) 0
+        (responseOf (refusalReply (now (request .entry)) reason))
+        (now (response .exit)) n ⌝ }
+    ensures fits { λ n. ⌜ n ≤ length (now (response .entry)) ⌝ }
 {
-    let e = refusal_numbers::entry_of(r);
+    let e = refusal_numbers::entry_of(reason);
     let n = e.0;
     let t = e.1;
     if n <= 4 {
         return 0;
     }
     if n <= 7 {
-        return tell(dst, b"GL!ER", t, n);
+        return tell(response, b"GL!ER", t, n);
     }
-    tell(dst, frames::header(request), t, n)
+    tell(response, frames::header(request), t, n)
 }

@@ -1,8 +1,9 @@
--- What question 3 asks of one register row, and its key, read of the card alone.
+-- What question 3 asks of one register row (document 01, Questions in order), and its key, read of the card alone.
 use Prim.Native.Nat.{ℕ, _+_, _*_}
-use mathlib.Core.Bool.{Bool, _&&_}
-use mathlib.Core.List.{List, []}
+use mathlib.Core.Bool.{Bool}
+use mathlib.Core.List.{List, [], _∷_}
 use lib.ListN.{take}
+use Rattle.octets.specs.Texts.{all}
 use Rattle.decimals.specs.Decimals.{decimal}
 use Rattle.attributes.specs.Table.{SGC, KRN, KSL}
 use Rattle.cards.specs.Entries.{valueOf, orElse}
@@ -15,11 +16,16 @@ use Rattle.row_index.specs.Found.{numberOf}
 
 -- a card as stored whose KSL is one of the names
 unfoldable pub isCardOwned : List (List ℕ) → List ℕ → Bool
-isCardOwned names card = isStored card && someRow (isCalled (orElse (valueOf KSL card) [])) names
+isCardOwned names card = all (
+    isStored card  -- cards as stored
+    ∷ someRow (isCalled (orElse (valueOf KSL card) [])) names  -- each KSL a slot not free
+    ∷ [])
 
 -- SGC and KRN of a card as one number
 unfoldable pub cardNumber : List ℕ → ℕ
-cardNumber card = decimal (take 10 (orElse (valueOf SGC card) [])) * 10 + decimal (take 1 (orElse (valueOf KRN card) []))
+cardNumber card =
+    decimal (take 10 (orElse (valueOf SGC card) [])) * 10
+    + decimal (take 1 (orElse (valueOf KRN card) []))
 
 -- the number of the name that is the card's KSL
 unfoldable pub cardOwner : List (List ℕ) → List ℕ → ℕ
@@ -27,4 +33,7 @@ cardOwner names card = numberOf (isCalled (orElse (valueOf KSL card) [])) names
 
 -- a row that is sound by itself, and free or owned by one of the names
 unfoldable pub isSoundUnder : List (List ℕ) → RegisterRow → Bool
-isSoundUnder names r = isRegisterSound r && isOwnedBy names r
+isSoundUnder names r = all (
+    isRegisterSound r
+    ∷ isOwnedBy names r
+    ∷ [])

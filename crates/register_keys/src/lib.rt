@@ -1,5 +1,6 @@
-// Question 3 of the registers (document 01, "Questions in order"): each row judged by itself and by its owner, its card read once; and their keys and owners as numbers,
-// for the test that no two registers hold one key and for the questions after it.
+// Question 3 of the registers (document 01, "Questions in order"): each row judged by itself and by its owner, its
+// card read once; and their keys and owners as numbers, for the test that no two registers hold one key and for the
+// questions after it.
 ghost use mathlib.Core.Path.{_≡_};
 ghost use mathlib.Core.Bool.{true, false};
 ghost use mathlib.Core.List.{map};
@@ -22,7 +23,9 @@ struct Judged {
 // The number of the name that is the value of the entry at ksl, which ends before ktc.
 fn owner_at(card: &[u8], ksl: usize, ktc: usize, names: &[[u8; 40]]) -> usize
     requires { ⌜ (ksl + 3 ≤ ktc - 1) × (1 ≤ ktc) × (ktc - 1 ≤ length (now card)) ⌝ }
-    ensures { λ k. ⌜ k ≡ numberOf (isCalled (take (ktc - 1 - (ksl + 3)) (drop (ksl + 3) (now (card .entry))))) (now (names .entry)) ⌝ }
+    ensures { λ k. ⌜ k ≡ numberOf
+        (isCalled (take (ktc - 1 - (ksl + 3)) (drop (ksl + 3) (now (card .entry)))))
+        (now (names .entry)) ⌝ }
 {
     let start = ksl + 3;
     let end = ktc - 1;
@@ -32,7 +35,8 @@ fn owner_at(card: &[u8], ksl: usize, ktc: usize, names: &[[u8; 40]]) -> usize
 // The ten digits of the entry at sgc and the one of that at krn, as a number.
 fn key_at(card: &[u8], sgc: usize, krn: usize) -> u64
     requires { ⌜ (sgc + 13 ≤ length (now card)) × (krn + 4 ≤ length (now card)) ⌝ }
-    ensures { λ k. ⌜ k ≡ decimal (take (sgc + 13 - (sgc + 3)) (drop (sgc + 3) (now (card .entry)))) * 10 + decimal (take (krn + 4 - (krn + 3)) (drop (krn + 3) (now (card .entry)))) ⌝ }
+    ensures { λ k. ⌜ k ≡ decimal (take (sgc + 13 - (sgc + 3)) (drop (sgc + 3) (now (card .entry)))) * 10
+        + decimal (take (krn + 4 - (krn + 3)) (drop (krn + 3) (now (card .entry)))) ⌝ }
 {
     let group = decimals::decimal(&card[sgc + 3..sgc + 13]);
     let revision = decimals::decimal(&card[krn + 3..krn + 4]);
@@ -75,8 +79,10 @@ fn judge_card(card: &[u8], names: &[[u8; 40]]) -> Judged
 // A row by its card; the numbers of a free one are 0.
 fn judge_register(card: &[u8; 256], names: &[[u8; 40]]) -> Judged
     ensures { λ j. ⌜ j .sound ≡ isSoundUnder (now (names .entry)) (rowWith (now (card .entry))) ⌝ }
-    ensures key { λ j. ⌜ (j .sound ≡ true → j .key ≡ keyNumber (rowWith (now (card .entry)))) ⌝ }
-    ensures owner { λ j. ⌜ (j .sound ≡ true → j .owner ≡ ownerNumber (now (names .entry)) (rowWith (now (card .entry)))) ⌝ }
+    ensures key { λ j. ⌜ (j .sound ≡ true
+        → j .key ≡ keyNumber (rowWith (now (card .entry)))) ⌝ }
+    ensures owner { λ j. ⌜ (j .sound ≡ true
+        → j .owner ≡ ownerNumber (now (names .entry)) (rowWith (now (card .entry)))) ⌝ }
 {
     if register_rows::is_clear(card) {
         return Judged {
@@ -100,8 +106,11 @@ pub fn judge_registers(cards: &[[u8; 256]], names: &[[u8; 40]]) -> Findings
     requires { ⌜ length (now cards) ≤ 32 ⌝ }
     ensures { λ f. ⌜ f .sound ≡ everyRow (isSoundUnder (now (names .entry))) (rowsWith (now (cards .entry))) ⌝ }
     ensures places { λ f. ⌜ length (f .keys) ≡ 32 ⌝ }
-    ensures keys { λ f. ⌜ (f .sound ≡ true → take (length (now (cards .entry))) (f .keys) ≡ map keyNumber (rowsWith (now (cards .entry)))) ⌝ }
-    ensures owners { λ f. ⌜ (f .sound ≡ true → take (length (now (cards .entry))) (f .owners) ≡ map (ownerNumber (now (names .entry))) (rowsWith (now (cards .entry)))) ⌝ }
+    ensures keys { λ f. ⌜ (f .sound ≡ true
+        → take (length (now (cards .entry))) (f .keys) ≡ map keyNumber (rowsWith (now (cards .entry)))) ⌝ }
+    ensures owners { λ f. ⌜ (f .sound ≡ true
+        → take (length (now (cards .entry))) (f .owners)
+        ≡ map (ownerNumber (now (names .entry))) (rowsWith (now (cards .entry)))) ⌝ }
 {
     let mut keys = [0u64; 32];
     let mut owners = [0usize; 32];

@@ -16,10 +16,10 @@ pub fn is_clear(card: &[u8; 256]) -> bool
 }
 
 // Whether the row is free.
-pub fn is_vacant(r: RegisterRow) -> bool
-    ensures { λ a. ⌜ a ≡ isVacant r ⌝ }
+pub fn is_vacant(row: RegisterRow) -> bool
+    ensures { λ a. ⌜ a ≡ isVacant row ⌝ }
 {
-    is_clear(&r.card)
+    is_clear(&row.card)
 }
 
 // A free row.

@@ -1,4 +1,5 @@
--- SM?KX by the numbers of the registers' owners: the card of each that is the slot k is cleared.
+-- SM?KX by the numbers of the registers' owners (document 01, Slots and registers: "as do just the registers whose KSL
+-- is it"): the card of each whose owner is the slot with the number k is cleared.
 use Prim.Native.Nat.{ℕ}
 use mathlib.Core.Bool.{cond}
 use mathlib.Core.List.{List, [], _∷_}

@@ -1,4 +1,5 @@
-// The registers of the table, by their cards (document 01, "Slots and registers"): the cards of rows, the rows with cards, and what SM?KX leaves.
+// The registers of the table, by their cards (document 01, "Slots and registers"): the cards of rows, the rows with
+// cards, and what SM?KX leaves.
 use rows::RegisterRow;
 ghost use mathlib.Core.Path.{_≡_};
 ghost use mathlib.Core.Bool.{cond};
@@ -42,20 +43,21 @@ pub fn rows_of(cards: [[u8; 256]; 32]) -> [RegisterRow; 32]
 // Clears the card at a place where its owner is the slot.
 fn free_one(cards: &mut [[u8; 256]], at: usize, owner: usize, slot: usize)
     requires { ⌜ at < length (now cards) ⌝ }
-    ensures { λ _. ⌜ now (cards .exit) ≡ set (now (cards .entry)) at (cond (eqb owner slot) (replicate 256 0) (getD (now (cards .entry)) at [])) ⌝ }
+    ensures { λ _. ⌜ now (cards .exit) ≡ set (now (cards .entry)) at
+        (cond (eqb owner slot) (replicate 256 0) (getD (now (cards .entry)) at [])) ⌝ }
 {
     if owner == slot {
         cards[at] = [0; 256];
     }
 }
 
-// Clears each of the first m cards whose owner is the slot.
-pub fn free_owned(cards: &mut [[u8; 256]], owners: [usize; 32], m: usize, slot: usize)
-    requires { ⌜ (m ≤ 32) × (m ≤ length (now cards)) ⌝ }
-    ensures { λ _. ⌜ now (cards .exit) ≡ freed slot (take m owners) (now (cards .entry)) ⌝ }
+// Clears each of the first register_count cards whose owner is the slot.
+pub fn free_owned(cards: &mut [[u8; 256]], owners: [usize; 32], register_count: usize, slot: usize)
+    requires { ⌜ («register_count» ≤ 32) × («register_count» ≤ length (now cards)) ⌝ }
+    ensures { λ _. ⌜ now (cards .exit) ≡ freed slot (take «register_count» owners) (now (cards .entry)) ⌝ }
 {
     let mut at = 0;
-    while at < m {
+    while at < register_count {
         free_one(cards, at, owners[at], slot);
         at += 1;
     }

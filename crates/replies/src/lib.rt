@@ -7,46 +7,71 @@ ghost use Rattle.fields.specs.Values.{number, string};
 ghost use Rattle.responses.specs.Responses.{responseBytes};
 
 // Writes a response without fields, and answers its length.
-pub fn reply(dst: &mut [u8], header: &[u8], status: &[u8]) -> usize
-    requires { ⌜ (3 ≤ length (now header)) × (length (now header) + length (now status) + 5 ≤ length (now dst)) ⌝ }
-    ensures { λ r. ⌜ Wrote (now (dst .entry)) 0 (responseBytes (now (header .entry)) (now (status .entry)) []) (now (dst .exit)) r ⌝ }
-    ensures fits { λ r. ⌜ r ≤ length (now (dst .entry)) ⌝ }
+pub fn reply(response: &mut [u8], header: &[u8], status: &[u8]) -> usize
+    requires { ⌜ (3 ≤ length (now header)) × (length (now header) + length (now status) + 5 ≤ length (now response)) ⌝ }
+    ensures { λ r. ⌜ Wrote (now (response .entry)) 0
+        (responseBytes (now (header .entry)) (now (status .entry)) [])
+        (now (response .exit)) r ⌝ }
+    ensures fits { λ r. ⌜ r ≤ length (now (response .entry)) ⌝ }
 {
-    let end = frame_writer::put_head(dst, header, status);
-    frame_writer::close_message(dst, end)
+    let end = frame_writer::put_head(response, header, status);
+    frame_writer::close_message(response, end)
 }
 
 // Writes a response with a string, and answers its length.
-pub fn reply_text(dst: &mut [u8], header: &[u8], status: &[u8], v: &[u8]) -> usize
-    requires { ⌜ (3 ≤ length (now header)) × (length (now header) + length (now status) + length (now v) + 7 ≤ length (now dst)) ⌝ }
-    ensures { λ r. ⌜ Wrote (now (dst .entry)) 0 (responseBytes (now (header .entry)) (now (status .entry)) (string (now (v .entry)) ∷ [])) (now (dst .exit)) r ⌝ }
-    ensures fits { λ r. ⌜ r ≤ length (now (dst .entry)) ⌝ }
+pub fn reply_text(response: &mut [u8], header: &[u8], status: &[u8], text: &[u8]) -> usize
+    requires { ⌜ (3 ≤ length (now header))
+        × (length (now header) + length (now status) + length (now text) + 7 ≤ length (now response)) ⌝ }
+    ensures { λ r. ⌜ Wrote (now (response .entry)) 0
+        (responseBytes (now (header .entry)) (now (status .entry)) (string (now (text .entry)) ∷ []))
+        (now (response .exit)) r ⌝ }
+    ensures fits { λ r. ⌜ r ≤ length (now (response .entry)) ⌝ }
 {
-    let a = frame_writer::put_head(dst, header, status);
-    let b = field_writer::put_string(dst, a, v);
-    frame_writer::close_message(dst, b)
+    let a = frame_writer::put_head(response, header, status);
+    let b = field_writer::put_string(response, a, text);
+    frame_writer::close_message(response, b)
 }
 
 // Writes a response with two strings, and answers its length.
-pub fn reply_texts(dst: &mut [u8], header: &[u8], status: &[u8], v: &[u8], w: &[u8]) -> usize
-    requires { ⌜ (3 ≤ length (now header)) × (length (now header) + length (now status) + length (now v) + length (now w) + 9 ≤ length (now dst)) ⌝ }
-    ensures { λ r. ⌜ Wrote (now (dst .entry)) 0 (responseBytes (now (header .entry)) (now (status .entry)) (string (now (v .entry)) ∷ string (now (w .entry)) ∷ [])) (now (dst .exit)) r ⌝ }
-    ensures fits { λ r. ⌜ r ≤ length (now (dst .entry)) ⌝ }
+pub fn reply_texts(
+    response: &mut [u8],
+    header: &[u8],
+    status: &[u8],
+    first: &[u8],
+    second: &[u8],
+) -> usize
+    requires { ⌜ (3 ≤ length (now header))
+        × (length (now header) + length (now status) + length (now first) + length (now second) + 9
+        ≤ length (now response)) ⌝ }
+    ensures { λ r. ⌜ Wrote (now (response .entry)) 0
+        (responseBytes (now (header .entry)) (now (status .entry))
+        (string (now (first .entry)) ∷ string (now (second .entry)) ∷ []))
+        (now (response .exit)) r ⌝ }
+    ensures fits { λ r. ⌜ r ≤ length (now (response .entry)) ⌝ }
 {
-    let a = frame_writer::put_head(dst, header, status);
-    let first = field_writer::put_string(dst, a, v);
-    let second = field_writer::put_string(dst, first, w);
-    frame_writer::close_message(dst, second)
+    let a = frame_writer::put_head(response, header, status);
+    let b = field_writer::put_string(response, a, first);
+    let c = field_writer::put_string(response, b, second);
+    frame_writer::close_message(response, c)
 }
 
 // Writes a response with a number and a string, and answers its length.
-pub fn reply_number_text(dst: &mut [u8], header: &[u8], status: &[u8], n: u32, w: &[u8]) -> usize
-    requires { ⌜ (3 ≤ length (now header)) × (length (now header) + length (now status) + 12 + length (now w) + 2 + 5 ≤ length (now dst)) ⌝ }
-    ensures { λ r. ⌜ Wrote (now (dst .entry)) 0 (responseBytes (now (header .entry)) (now (status .entry)) (number n ∷ string (now (w .entry)) ∷ [])) (now (dst .exit)) r ⌝ }
-    ensures fits { λ r. ⌜ r ≤ length (now (dst .entry)) ⌝ }
+pub fn reply_number_text(
+    response: &mut [u8],
+    header: &[u8],
+    status: &[u8],
+    integer: u32,
+    text: &[u8],
+) -> usize
+    requires { ⌜ (3 ≤ length (now header))
+        × (length (now header) + length (now status) + 12 + length (now text) + 2 + 5 ≤ length (now response)) ⌝ }
+    ensures { λ r. ⌜ Wrote (now (response .entry)) 0
+        (responseBytes (now (header .entry)) (now (status .entry)) (number integer ∷ string (now (text .entry)) ∷ []))
+        (now (response .exit)) r ⌝ }
+    ensures fits { λ r. ⌜ r ≤ length (now (response .entry)) ⌝ }
 {
-    let a = frame_writer::put_head(dst, header, status);
-    let b = field_writer::put_number(dst, a, n);
-    let c = field_writer::put_string(dst, b, w);
-    frame_writer::close_message(dst, c)
+    let a = frame_writer::put_head(response, header, status);
+    let b = field_writer::put_number(response, a, integer);
+    let c = field_writer::put_string(response, b, text);
+    frame_writer::close_message(response, c)
 }

@@ -16,7 +16,9 @@ ghost use Rattle.session_replies.specs.Room.{HasRoom};
 // The response to SM?GA, and its length: the stored card, without the zeros after it.
 pub fn respond_card(card: &[u8], request: &[u8], response: &mut [u8]) -> usize
     requires { ⌜ (length (now card) ≤ 256) × HasRoom (length (now request)) (length (now response)) ⌝ }
-    ensures { λ n. ⌜ Wrote (now (response .entry)) 0 (responseBytes (headerOf (now (request .entry))) accepted (string (trimmed (now (card .entry))) ∷ [])) (now (response .exit)) n ⌝ }
+    ensures { λ n. ⌜ Wrote (now (response .entry)) 0
+        (responseBytes (headerOf (now (request .entry))) accepted (string (trimmed (now (card .entry))) ∷ []))
+        (now (response .exit)) n ⌝ }
     ensures fits { λ n. ⌜ n ≤ length (now (response .entry)) ⌝ }
 {
     let shown = slot_tests::trimmed(card);
@@ -24,26 +26,43 @@ pub fn respond_card(card: &[u8], request: &[u8], response: &mut [u8]) -> usize
 }
 
 // The response to SM?GL, and its length: the identifiers of the slots that are not free, row by row.
-pub fn respond_names(slots: [SlotRow; 8], n: usize, request: &[u8], response: &mut [u8]) -> usize
-    requires { ⌜ (n ≤ 8) × HasRoom (length (now request)) (length (now response)) ⌝ }
-    ensures { λ r. ⌜ Wrote (now (response .entry)) 0 (responseBytes (headerOf (now (request .entry))) accepted (nameFields (slotNames (take n slots)))) (now (response .exit)) r ⌝ }
+pub fn respond_names(
+    slots: [SlotRow; 8],
+    slot_count: usize,
+    request: &[u8],
+    response: &mut [u8],
+) -> usize
+    requires { ⌜ («slot_count» ≤ 8) × HasRoom (length (now request)) (length (now response)) ⌝ }
+    ensures { λ r. ⌜ Wrote (now (response .entry)) 0
+        (responseBytes (headerOf (now (request .entry))) accepted (nameFields (slotNames (take «slot_count» slots))))
+        (now (response .exit)) r ⌝ }
     ensures fits { λ r. ⌜ r ≤ length (now (response .entry)) ⌝ }
 {
-    slot_lists::reply_names(response, frames::header(request), slots, n)
+    slot_lists::reply_names(response, frames::header(request), slots, slot_count)
 }
 
 // The response to SM?KQ, and its length: what is told of a slot, and the numbers of the registers that it owns.
 pub fn respond_query(
     row: SlotRow,
     owners: [usize; 32],
-    m: usize,
+    register_count: usize,
     slot: usize,
     request: &[u8],
     response: &mut [u8],
 ) -> usize
-    requires { ⌜ (m ≤ 32) × HasRoom (length (now request)) (length (now response)) ⌝ }
-    ensures { λ n. ⌜ Wrote (now (response .entry)) 0 (responseBytes (headerOf (now (request .entry))) accepted (slotFields row ++ numberFields (numbersFrom (isThe slot) 1 (take m owners)))) (now (response .exit)) n ⌝ }
+    requires { ⌜ («register_count» ≤ 32) × HasRoom (length (now request)) (length (now response)) ⌝ }
+    ensures { λ n. ⌜ Wrote (now (response .entry)) 0
+        (responseBytes (headerOf (now (request .entry))) accepted
+        (slotFields row ++ numberFields (numbersFrom (isThe slot) 1 (take «register_count» owners))))
+        (now (response .exit)) n ⌝ }
     ensures fits { λ n. ⌜ n ≤ length (now (response .entry)) ⌝ }
 {
-    slot_queries::reply_query(response, frames::header(request), row, owners, m, slot)
+    slot_queries::reply_query(
+        response,
+        frames::header(request),
+        row,
+        owners,
+        register_count,
+        slot,
+    )
 }

@@ -26,9 +26,9 @@ module _ (p : List ℕ) (f : Found) (w : between p f ≡ textIn (valuesOf p)) wh
   pub only-absent : areFieldsOf KF (valuesOf p) ≡ true → f ≡ found.Nothing → (s : List ℕ) → s ≡ firstText (valuesOf p)
   only-absent e o s = let z = text-absent p (valuesOf p) f w o in nope (cc)
 
--- first_text and second_text: there are two
+-- loaded_card: there are two strings
 module _ (p : List ℕ) (f : TwoTexts) (w : firstBetween p f ≡ firstTextIn (valuesOf p)) where
-  pub both-absent : areFieldsOf KL (valuesOf p) ≡ true → f ≡ texts.Nothing → (s t : List ℕ) → s ≡ t
+  pub both-absent : {A : Type 0} → areFieldsOf KL (valuesOf p) ≡ true → f ≡ texts.Nothing → (s t : A) → s ≡ t
   both-absent e o s t = let z = texts-absent p (valuesOf p) f w o in nope (cc)
 
 -- pending_row

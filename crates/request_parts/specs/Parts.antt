@@ -1,4 +1,5 @@
--- What a command takes out of the fields vs of its request, and makes of it with the supplement x (document 01, Slots and registers).
+-- What a command takes out of the fields vs of its request, and makes of it with the supplement x (document 01, Slots
+-- and registers).
 use Prim.Native.Nat.{ℕ}
 use mathlib.Core.List.{List}
 use Rattle.fields.specs.Values.{Value}

@@ -13,10 +13,10 @@ ghost use Rattle.row_index.specs.Lent.{rowsWith, tablesWith};
 ghost use Rattle.responding.specs.Responding.{outcomeFor, responseFor, CanRespond};
 
 // The outcome of a decision.
-pub fn outcome(d: Decision) -> Outcome
-    ensures { λ o. ⌜ o ≡ outcomeFor d ⌝ }
+pub fn outcome(decision: Decision) -> Outcome
+    ensures { λ o. ⌜ o ≡ outcomeFor decision ⌝ }
 {
-    match d {
+    match decision {
         Decision::Refuse(r) => Outcome::Refused(r),
         Decision::Pend(_) => Outcome::Accepted(SlotState::Pending),
         Decision::Open(_) => Outcome::Accepted(SlotState::Loading),
@@ -31,39 +31,52 @@ pub fn outcome(d: Decision) -> Outcome
     }
 }
 
-// The response of a decision, and its length: over the slot rows and the cards, with the number of each register's owner.
+// The response of a decision, and its length: over the slot rows and the cards, with the number of each register's
+// owner.
 pub fn respond(
-    d: Decision,
+    decision: Decision,
     slots: [SlotRow; 8],
-    n: usize,
+    slot_count: usize,
     cards: &[[u8; 256]],
-    m: usize,
+    register_count: usize,
     owners: [usize; 32],
     stored: Stored,
-    x: Supplement,
+    supplement: Supplement,
     request: &[u8],
     response: &mut [u8],
 ) -> usize
-    requires { ⌜ (length (now cards) ≡ 32) × CanRespond d (tablesWith slots n (rowsWith (now cards)) m) owners stored x (now request) (length (now response)) ⌝ }
-    ensures { λ k. ⌜ Wrote (now (response .entry)) 0 (responseFor d (tablesWith slots n (rowsWith (now (cards .entry))) m) x (now (request .entry))) (now (response .exit)) k ⌝ }
+    requires { ⌜ (length (now cards) ≡ 32)
+        × CanRespond decision (tablesWith slots «slot_count» (rowsWith (now cards)) «register_count»)
+        owners stored supplement (now request) (length (now response)) ⌝ }
+    ensures { λ k. ⌜ Wrote (now (response .entry)) 0
+        (responseFor decision (tablesWith slots «slot_count» (rowsWith (now (cards .entry))) «register_count»)
+        supplement (now (request .entry)))
+        (now (response .exit)) k ⌝ }
     ensures fits { λ k. ⌜ k ≤ length (now (response .entry)) ⌝ }
 {
-    match d {
+    match decision {
         Decision::Refuse(r) => refusals::refuse(response, request, r),
-        Decision::Pend(_) => session_replies::respond_pending(x, request, response),
+        Decision::Pend(_) => session_replies::respond_pending(supplement, request, response),
         Decision::Open(_) => session_replies::respond_open(request, response),
         Decision::Load(k) => {
-            let n = stored.length;
+            let length = stored.length;
             let card = stored.card;
-            session_replies::respond_load(k, &card[..n], request, response)
+            session_replies::respond_load(k, &card[..length], request, response)
         }
         Decision::Reset | Decision::Finish(_) | Decision::Delete(_) | Decision::Clear(_) => {
             session_replies::respond_plainly(request, response)
         }
         Decision::Show(k) => report_replies::respond_card(&cards[k], request, response),
-        Decision::Enumerate => report_replies::respond_names(slots, n, request, response),
+        Decision::Enumerate => report_replies::respond_names(slots, slot_count, request, response),
         Decision::Query(k) => {
-            report_replies::respond_query(slots[k], owners, m, k + 1, request, response)
+            report_replies::respond_query(
+                slots[k],
+                owners,
+                register_count,
+                k + 1,
+                request,
+                response,
+            )
         }
     }
 }

@@ -1,4 +1,5 @@
-// The responses of the commands that change rows, to a request whose questions are all yeses (001 clauses 6.2.7 and 6.3).
+// The responses of the commands that change rows, to a request whose questions are all yeses (001 clauses 6.2.7 and
+// 6.3).
 use rows::Supplement;
 ghost use mathlib.Core.Path.{_≡_};
 ghost use mathlib.Core.Bool.{true};
@@ -19,28 +20,41 @@ ghost use Rattle.session_replies.specs.Room.{HasRoom};
 // Accepts a request whose response has no fields, and answers its length.
 pub fn respond_plainly(request: &[u8], response: &mut [u8]) -> usize
     requires { ⌜ HasRoom (length (now request)) (length (now response)) ⌝ }
-    ensures { λ n. ⌜ Wrote (now (response .entry)) 0 (responseBytes (headerOf (now (request .entry))) accepted []) (now (response .exit)) n ⌝ }
+    ensures { λ n. ⌜ Wrote (now (response .entry)) 0
+        (responseBytes (headerOf (now (request .entry))) accepted [])
+        (now (response .exit)) n ⌝ }
     ensures fits { λ n. ⌜ n ≤ length (now (response .entry)) ⌝ }
 {
     replies::reply(response, frames::header(request), b"00")
 }
 
 // The response to SM?KC, and its length: the KMCID and the load request.
-pub fn respond_pending(x: Supplement, request: &[u8], response: &mut [u8]) -> usize
-    requires { ⌜ HasRoom (length (now request)) (length (now response)) × ((areFieldsOf KF (fieldsIn (now request)) ≡ true) × ((length (kmcidOf (fieldsIn (now request))) ≤ 40) × (x .«request_length» ≤ 700))) ⌝ }
-    ensures { λ n. ⌜ Wrote (now (response .entry)) 0 (responseBytes (headerOf (now (request .entry))) accepted (string (kmcidOf (fieldsIn (now (request .entry)))) ∷ string (loadRequest x) ∷ [])) (now (response .exit)) n ⌝ }
+pub fn respond_pending(supplement: Supplement, request: &[u8], response: &mut [u8]) -> usize
+    requires { ⌜ HasRoom (length (now request)) (length (now response))
+        × ((areFieldsOf KF (fieldsIn (now request)) ≡ true)
+        × ((length (kmcidOf (fieldsIn (now request))) ≤ 40)
+        × (supplement .«request_length» ≤ 700))) ⌝ }
+    ensures { λ n. ⌜ Wrote (now (response .entry)) 0
+        (responseBytes (headerOf (now (request .entry))) accepted
+        (string (kmcidOf (fieldsIn (now (request .entry)))) ∷ string (loadRequest supplement) ∷ []))
+        (now (response .exit)) n ⌝ }
     ensures fits { λ n. ⌜ n ≤ length (now (response .entry)) ⌝ }
 {
     let kmcid = request_parts::kmcid_text(frames::payload(request));
-    let n = x.request_length;
-    let load = x.request;
+    let n = supplement.request_length;
+    let load = supplement.request;
     replies::reply_texts(response, frames::header(request), b"00", kmcid, &load[..n])
 }
 
 // The response to SM?KR, and its length: the KMCID.
 pub fn respond_open(request: &[u8], response: &mut [u8]) -> usize
-    requires { ⌜ HasRoom (length (now request)) (length (now response)) × ((areFieldsOf KF (fieldsIn (now request)) ≡ true) × (length (kmcidOf (fieldsIn (now request))) ≤ 40)) ⌝ }
-    ensures { λ n. ⌜ Wrote (now (response .entry)) 0 (responseBytes (headerOf (now (request .entry))) accepted (string (kmcidOf (fieldsIn (now (request .entry)))) ∷ [])) (now (response .exit)) n ⌝ }
+    requires { ⌜ HasRoom (length (now request)) (length (now response))
+        × ((areFieldsOf KF (fieldsIn (now request)) ≡ true)
+        × (length (kmcidOf (fieldsIn (now request))) ≤ 40)) ⌝ }
+    ensures { λ n. ⌜ Wrote (now (response .entry)) 0
+        (responseBytes (headerOf (now (request .entry))) accepted
+        (string (kmcidOf (fieldsIn (now (request .entry)))) ∷ []))
+        (now (response .exit)) n ⌝ }
     ensures fits { λ n. ⌜ n ≤ length (now (response .entry)) ⌝ }
 {
     let name = request_parts::kmcid_text(frames::payload(request));
@@ -48,10 +62,19 @@ pub fn respond_open(request: &[u8], response: &mut [u8]) -> usize
 }
 
 // The response to SM?KL, and its length: the number of the register, counted from 1, and the stored card.
-pub fn respond_load(k: usize, card: &[u8], request: &[u8], response: &mut [u8]) -> usize
-    requires { ⌜ HasRoom (length (now request)) (length (now response)) × ((length (now card) ≤ 256) × (k < 32)) ⌝ }
-    ensures { λ n. ⌜ Wrote (now (response .entry)) 0 (responseBytes (headerOf (now (request .entry))) accepted (number (k + 1) ∷ string (now (card .entry)) ∷ [])) (now (response .exit)) n ⌝ }
+pub fn respond_load(place: usize, card: &[u8], request: &[u8], response: &mut [u8]) -> usize
+    requires { ⌜ HasRoom (length (now request)) (length (now response)) × ((length (now card) ≤ 256) × (place < 32)) ⌝ }
+    ensures { λ n. ⌜ Wrote (now (response .entry)) 0
+        (responseBytes (headerOf (now (request .entry))) accepted
+        (number (place + 1) ∷ string (now (card .entry)) ∷ []))
+        (now (response .exit)) n ⌝ }
     ensures fits { λ n. ⌜ n ≤ length (now (response .entry)) ⌝ }
 {
-    replies::reply_number_text(response, frames::header(request), b"00", k as u32 + 1, card)
+    replies::reply_number_text(
+        response,
+        frames::header(request),
+        b"00",
+        place as u32 + 1,
+        card,
+    )
 }

@@ -1,4 +1,5 @@
-// What is told of one slot, as PTVD fields (001 clauses 6.3.1 and 6.3.2): its identifier, its state, and TVP and fingerprint of a key.
+// What is told of one slot, as PTVD fields (001 clauses 6.3.1 and 6.3.2): its identifier, its state, and TVP and
+// fingerprint of a key.
 use rows::SlotRow;
 use rows::SlotState;
 ghost use mathlib.Core.Bool.{cond};
@@ -38,7 +39,10 @@ pub fn put_state(dst: &mut [u8], at: usize, row: SlotRow) -> usize
 // Writes TVP and fingerprint, both empty where the slot does not hold them, and answers the place after them.
 pub fn put_key(dst: &mut [u8], at: usize, held: bool, tvp: &[u8], fingerprint: &[u8]) -> usize
     requires { ⌜ (length (now tvp) ≤ 16) × (length (now fingerprint) ≤ 16) × (at + 36 ≤ length (now dst)) ⌝ }
-    ensures { λ r. ⌜ Wrote (now (dst .entry)) at (payloadBytes (string (cond held (now (tvp .entry)) []) ∷ octets (cond held (now (fingerprint .entry)) []) ∷ [])) (now (dst .exit)) r ⌝ }
+    ensures { λ r. ⌜ Wrote (now (dst .entry)) at
+        (payloadBytes (string (cond held (now (tvp .entry)) [])
+        ∷ octets (cond held (now (fingerprint .entry)) []) ∷ []))
+        (now (dst .exit)) r ⌝ }
     ensures short { λ r. ⌜ r ≤ at + 36 ⌝ }
 {
     if !held {

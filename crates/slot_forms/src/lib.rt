@@ -1,4 +1,5 @@
-// What question 3 asks of one slot row (document 01, "Slots and registers"): whether it is free with every byte zero, or filled in form.
+// What question 3 asks of one slot row (document 01, "Slots and registers"): whether it is free with every byte
+// zero, or filled in form.
 use forms::Form;
 use rows::SlotRow;
 use rows::SlotState;
@@ -14,74 +15,75 @@ ghost use Rattle.timestamp.specs.Timestamps.{isTimestamp};
 ghost use Rattle.rows.specs.Lists.{trimmed};
 ghost use Rattle.rows.specs.Slots.{isZeroSlot, isFilledSlot, isSlotSound};
 
-fn is_zero(s: &[u8]) -> bool
-    ensures { λ b. ⌜ b ≡ areAll Zero (now (s .entry)) ⌝ }
+fn is_zero(bytes: &[u8]) -> bool
+    ensures { λ b. ⌜ b ≡ areAll Zero (now (bytes .entry)) ⌝ }
 {
-    text::are_all(Class::Zero, s)
+    text::are_all(Class::Zero, bytes)
 }
 
 // Whether every byte of the row is zero.
-pub fn is_zero_slot(r: SlotRow) -> bool
-    ensures { λ b. ⌜ b ≡ isZeroSlot r ⌝ }
+pub fn is_zero_slot(row: SlotRow) -> bool
+    ensures { λ b. ⌜ b ≡ isZeroSlot row ⌝ }
 {
-    if r.state != 0 {
+    if row.state != 0 {
         return false;
     }
-    if !is_zero(&r.kmcid) {
+    if !is_zero(&row.kmcid) {
         return false;
     }
-    if !is_zero(&r.fingerprint) {
+    if !is_zero(&row.fingerprint) {
         return false;
     }
-    is_zero(&r.tvp)
+    is_zero(&row.tvp)
 }
 
-// Whether s is a KMCID with zeros after it.
-fn is_kmcid(s: &[u8]) -> bool
-    ensures { λ b. ⌜ b ≡ (isIdentifier (trimmed (now (s .entry))) && areAll Zero (drop (run (isNot 0) (now (s .entry))) (now (s .entry)))) ⌝ }
+// Whether the bytes are a KMCID with zeros after it.
+fn is_kmcid(bytes: &[u8]) -> bool
+    ensures { λ b. ⌜ b ≡ (isIdentifier (trimmed (now (bytes .entry)))
+        && areAll Zero (drop (run (isNot 0) (now (bytes .entry))) (now (bytes .entry)))) ⌝ }
 {
-    let end = pieces::piece_end(s, 0, 0);
-    if !text::is_identifier(&s[0..end]) {
+    let end = pieces::piece_end(bytes, 0, 0);
+    if !text::is_identifier(&bytes[0..end]) {
         return false;
     }
-    is_zero(&s[end..])
+    is_zero(&bytes[end..])
 }
 
-// Whether s is the TVP of a slot not free: a timestamp where it is PENDING, and else zero.
-fn is_tvp(pending: bool, s: &[u8]) -> bool
-    ensures { λ b. ⌜ b ≡ cond pending (isTimestamp (now (s .entry))) (areAll Zero (now (s .entry))) ⌝ }
+// Whether the bytes are the TVP of a slot not free: a timestamp where it is PENDING, and else zero.
+fn is_tvp(pending: bool, bytes: &[u8]) -> bool
+    ensures { λ b. ⌜ b ≡ cond pending (isTimestamp (now (bytes .entry))) (areAll Zero (now (bytes .entry))) ⌝ }
 {
     if !pending {
-        return is_zero(s);
+        return is_zero(bytes);
     }
-    forms::in_form(Form::Timestamp, s)
+    forms::in_form(Form::Timestamp, bytes)
 }
 
 // Whether the fields of a slot not free are in form.
-fn is_filled_slot(r: SlotRow) -> bool
-    ensures { λ b. ⌜ b ≡ isFilledSlot r ⌝ }
+fn is_filled_slot(row: SlotRow) -> bool
+    ensures { λ b. ⌜ b ≡ isFilledSlot row ⌝ }
 {
-    if !is_kmcid(&r.kmcid) {
+    if !is_kmcid(&row.kmcid) {
         return false;
     }
-    if !forms::in_form(Form::Hex(16), &r.fingerprint) {
+    if !forms::in_form(Form::Hex(16), &row.fingerprint) {
         return false;
     }
-    is_tvp(slot_tests::has_state(r, SlotState::Pending), &r.tvp)
+    is_tvp(slot_tests::has_state(row, SlotState::Pending), &row.tvp)
 }
 
 // Whether the row is sound by itself.
-pub fn is_slot_sound(r: SlotRow) -> bool
-    ensures { λ b. ⌜ b ≡ isSlotSound r ⌝ }
+pub fn is_slot_sound(row: SlotRow) -> bool
+    ensures { λ b. ⌜ b ≡ isSlotSound row ⌝ }
 {
-    if is_zero_slot(r) {
+    if is_zero_slot(row) {
         return true;
     }
-    if r.state < 1 {
+    if row.state < 1 {
         return false;
     }
-    if 3 < r.state {
+    if 3 < row.state {
         return false;
     }
-    is_filled_slot(r)
+    is_filled_slot(row)
 }

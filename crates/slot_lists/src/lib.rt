@@ -4,6 +4,7 @@ use rows::SlotState;
 ghost use mathlib.Core.List.{[], _∷_};
 ghost use Prim.Native.Nat.{_+_, _≤_};
 ghost use lib.ListN.{length, take};
+ghost use Rattle.octets.specs.Texts.{text};
 ghost use Rattle.octets.specs.Wrote.{Wrote};
 ghost use Rattle.fields.specs.Values.{payloadBytes};
 ghost use Rattle.responses.specs.Responses.{responseBytes};
@@ -12,7 +13,9 @@ ghost use Rattle.rows.specs.Reports.{slotNames, nameFields};
 // Writes the identifier of a slot, of a free one nothing, and answers the place after it.
 fn put_name(dst: &mut [u8], at: usize, row: SlotRow) -> usize
     requires { ⌜ at + 42 ≤ length (now dst) ⌝ }
-    ensures { λ r. ⌜ Wrote (now (dst .entry)) at (payloadBytes (nameFields (slotNames (row ∷ [])))) (now (dst .exit)) r ⌝ }
+    ensures { λ r. ⌜ Wrote (now (dst .entry)) at
+        (payloadBytes (nameFields (slotNames (row ∷ []))))
+        (now (dst .exit)) r ⌝ }
     ensures short { λ r. ⌜ r ≤ at + 42 ⌝ }
 {
     if slot_tests::has_state(row, SlotState::Free) {
@@ -21,15 +24,17 @@ fn put_name(dst: &mut [u8], at: usize, row: SlotRow) -> usize
     slot_fields::put_kmcid(dst, at, row)
 }
 
-// Writes the identifiers of those of the first n rows that are not free, and answers the place after them.
-fn put_names(dst: &mut [u8], at: usize, slots: [SlotRow; 8], n: usize) -> usize
-    requires { ⌜ (n ≤ 8) × (at + 336 ≤ length (now dst)) ⌝ }
-    ensures { λ r. ⌜ Wrote (now (dst .entry)) at (payloadBytes (nameFields (slotNames (take n slots)))) (now (dst .exit)) r ⌝ }
+// Writes the identifiers of those of the first slot_count rows that are not free, and answers the place after them.
+fn put_names(dst: &mut [u8], at: usize, slots: [SlotRow; 8], slot_count: usize) -> usize
+    requires { ⌜ («slot_count» ≤ 8) × (at + 336 ≤ length (now dst)) ⌝ }
+    ensures { λ r. ⌜ Wrote (now (dst .entry)) at
+        (payloadBytes (nameFields (slotNames (take «slot_count» slots))))
+        (now (dst .exit)) r ⌝ }
     ensures short { λ r. ⌜ r ≤ at + 336 ⌝ }
 {
     let mut end = at;
     let mut i = 0;
-    while i < n {
+    while i < slot_count {
         let row = slots[i];
         end = put_name(dst, end, row);
         i += 1;
@@ -38,12 +43,21 @@ fn put_names(dst: &mut [u8], at: usize, slots: [SlotRow; 8], n: usize) -> usize
 }
 
 // Writes the response, and answers its length.
-pub fn reply_names(dst: &mut [u8], header: &[u8], slots: [SlotRow; 8], n: usize) -> usize
-    requires { ⌜ (n ≤ 8) × (3 ≤ length (now header)) × (length (now header) + 343 ≤ length (now dst)) ⌝ }
-    ensures { λ r. ⌜ Wrote (now (dst .entry)) 0 (responseBytes (now (header .entry)) (48 ∷ 48 ∷ []) (nameFields (slotNames (take n slots)))) (now (dst .exit)) r ⌝ }
-    ensures fits { λ r. ⌜ r ≤ length (now (dst .entry)) ⌝ }
+pub fn reply_names(
+    response: &mut [u8],
+    header: &[u8],
+    slots: [SlotRow; 8],
+    slot_count: usize,
+) -> usize
+    requires { ⌜ («slot_count» ≤ 8)
+        × (3 ≤ length (now header))
+        × (length (now header) + 343 ≤ length (now response)) ⌝ }
+    ensures { λ r. ⌜ Wrote (now (response .entry)) 0
+        (responseBytes (now (header .entry)) (text "00") (nameFields (slotNames (take «slot_count» slots))))
+        (now (response .exit)) r ⌝ }
+    ensures fits { λ r. ⌜ r ≤ length (now (response .entry)) ⌝ }
 {
-    let a = frame_writer::put_head(dst, header, b"00");
-    let b = put_names(dst, a, slots, n);
-    frame_writer::close_message(dst, b)
+    let a = frame_writer::put_head(response, header, b"00");
+    let b = put_names(response, a, slots, slot_count);
+    frame_writer::close_message(response, b)
 }

@@ -1,33 +1,35 @@
-// The slots' names as they are kept, zeros after them (document 01, "Slots and registers"): the number of the one that s is, and whether no two are one.
+// The slots' names as they are kept, zeros after them (document 01, "Slots and registers"): the number of the one
+// that a name is, and whether no two are one.
 ghost use mathlib.Core.Path.{_≡_};
 ghost use Rattle.rows.specs.Lists.{distinctRows};
 ghost use Rattle.rows.specs.Index.{isCalled, isSameName};
 ghost use Rattle.row_index.specs.Found.{numberOf};
 
-// Whether a kept name is s. Names mostly differ in their last byte, so that is compared before the name's end is looked for.
-pub fn is_called(name: &[u8], s: &[u8]) -> bool
-    ensures { λ b. ⌜ b ≡ isCalled (now (s .entry)) (now (name .entry)) ⌝ }
+// Whether a kept name is the name. Names mostly differ in their last byte, so that is compared before the name's
+// end is looked for.
+pub fn is_called(kept: &[u8], name: &[u8]) -> bool
+    ensures { λ b. ⌜ b ≡ isCalled (now (name .entry)) (now (kept .entry)) ⌝ }
 {
-    if s.len() == 0 {
+    if name.len() == 0 {
         return false;
     }
-    if name.len() < s.len() {
+    if kept.len() < name.len() {
         return false;
     }
-    let last = s.len() - 1;
-    if name[last] != s[last] {
+    let last = name.len() - 1;
+    if kept[last] != name[last] {
         return false;
     }
-    octets::same_bytes(slot_tests::trimmed(name), s)
+    octets::same_bytes(slot_tests::trimmed(kept), name)
 }
 
-// The number of the name that is s, counted from 1; 0 where none is.
-pub fn number_of(names: &[[u8; 40]], s: &[u8]) -> usize
-    ensures { λ k. ⌜ k ≡ numberOf (isCalled (now (s .entry))) (now (names .entry)) ⌝ }
+// The number of the kept name that is the name, counted from 1; 0 where none is.
+pub fn number_of(names: &[[u8; 40]], name: &[u8]) -> usize
+    ensures { λ k. ⌜ k ≡ numberOf (isCalled (now (name .entry))) (now (names .entry)) ⌝ }
 {
     let mut i = 0;
     while i < names.len() {
-        if is_called(&names[i], s) {
+        if is_called(&names[i], name) {
             return i + 1;
         }
         i += 1;

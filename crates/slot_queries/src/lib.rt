@@ -1,8 +1,10 @@
-// The response of SM?KQ (001 clause 6.3.2): what a slot holds, and the numbers of the registers that hold its keys. Never a card.
+// The response of SM?KQ (001 clause 6.3.2): what a slot holds, and the numbers of the registers that hold its keys.
+// Never a card.
 use rows::SlotRow;
 ghost use mathlib.Core.List.{[], _∷_, _++_};
 ghost use Prim.Native.Nat.{_+_, _≤_};
 ghost use lib.ListN.{length, take};
+ghost use Rattle.octets.specs.Texts.{text};
 ghost use Rattle.octets.specs.Wrote.{Wrote};
 ghost use Rattle.fields.specs.Values.{payloadBytes};
 ghost use Rattle.responses.specs.Responses.{responseBytes};
@@ -13,7 +15,9 @@ ghost use Rattle.row_index.specs.Found.{isThe};
 // Writes a register's number where its owner is the slot, else nothing, and answers the place after it.
 fn put_register(dst: &mut [u8], at: usize, number: u32, owner: usize, slot: usize) -> usize
     requires { ⌜ at + 12 ≤ length (now dst) ⌝ }
-    ensures { λ r. ⌜ Wrote (now (dst .entry)) at (payloadBytes (numberFields (numbersFrom (isThe slot) number (owner ∷ [])))) (now (dst .exit)) r ⌝ }
+    ensures { λ r. ⌜ Wrote (now (dst .entry)) at
+        (payloadBytes (numberFields (numbersFrom (isThe slot) number (owner ∷ []))))
+        (now (dst .exit)) r ⌝ }
     ensures short { λ r. ⌜ r ≤ at + 12 ⌝ }
 {
     if owner == slot {
@@ -22,15 +26,24 @@ fn put_register(dst: &mut [u8], at: usize, number: u32, owner: usize, slot: usiz
     at
 }
 
-// Writes the numbers, from 1, of the registers among the first m whose owner is the slot. Answers the place after them.
-fn put_registers(dst: &mut [u8], at: usize, owners: [usize; 32], m: usize, slot: usize) -> usize
-    requires { ⌜ (m ≤ 32) × (at + 384 ≤ length (now dst)) ⌝ }
-    ensures { λ r. ⌜ Wrote (now (dst .entry)) at (payloadBytes (numberFields (numbersFrom (isThe slot) 1 (take m owners)))) (now (dst .exit)) r ⌝ }
+// Writes the numbers, from 1, of the registers among the first register_count whose owner is the slot. Answers the
+// place after them.
+fn put_registers(
+    dst: &mut [u8],
+    at: usize,
+    owners: [usize; 32],
+    register_count: usize,
+    slot: usize,
+) -> usize
+    requires { ⌜ («register_count» ≤ 32) × (at + 384 ≤ length (now dst)) ⌝ }
+    ensures { λ r. ⌜ Wrote (now (dst .entry)) at
+        (payloadBytes (numberFields (numbersFrom (isThe slot) 1 (take «register_count» owners))))
+        (now (dst .exit)) r ⌝ }
     ensures short { λ r. ⌜ r ≤ at + 384 ⌝ }
 {
     let mut end = at;
     let mut i = 0;
-    while i < m {
+    while i < register_count {
         end = put_register(dst, end, (i + 1) as u32, owners[i], slot);
         i += 1;
     }
@@ -39,19 +52,24 @@ fn put_registers(dst: &mut [u8], at: usize, owners: [usize; 32], m: usize, slot:
 
 // Writes the response, and answers its length. The slot is known to the owners by its number.
 pub fn reply_query(
-    dst: &mut [u8],
+    response: &mut [u8],
     header: &[u8],
     row: SlotRow,
     owners: [usize; 32],
-    m: usize,
+    register_count: usize,
     slot: usize,
 ) -> usize
-    requires { ⌜ (m ≤ 32) × (3 ≤ length (now header)) × (length (now header) + 514 ≤ length (now dst)) ⌝ }
-    ensures { λ r. ⌜ Wrote (now (dst .entry)) 0 (responseBytes (now (header .entry)) (48 ∷ 48 ∷ []) (slotFields row ++ numberFields (numbersFrom (isThe slot) 1 (take m owners)))) (now (dst .exit)) r ⌝ }
-    ensures fits { λ r. ⌜ r ≤ length (now (dst .entry)) ⌝ }
+    requires { ⌜ («register_count» ≤ 32)
+        × (3 ≤ length (now header))
+        × (length (now header) + 514 ≤ length (now response)) ⌝ }
+    ensures { λ r. ⌜ Wrote (now (response .entry)) 0
+        (responseBytes (now (header .entry)) (text "00")
+        (slotFields row ++ numberFields (numbersFrom (isThe slot) 1 (take «register_count» owners))))
+        (now (response .exit)) r ⌝ }
+    ensures fits { λ r. ⌜ r ≤ length (now (response .entry)) ⌝ }
 {
-    let a = frame_writer::put_head(dst, header, b"00");
-    let b = slot_reports::put_slot(dst, a, row);
-    let c = put_registers(dst, b, owners, m, slot);
-    frame_writer::close_message(dst, c)
+    let a = frame_writer::put_head(response, header, b"00");
+    let b = slot_reports::put_slot(response, a, row);
+    let c = put_registers(response, b, owners, register_count, slot);
+    frame_writer::close_message(response, c)
 }

@@ -7,7 +7,8 @@ ghost use Rattle.octets.specs.Wrote.{Wrote};
 ghost use Rattle.fields.specs.Values.{payloadBytes};
 ghost use Rattle.rows.specs.Reports.{slotFields};
 
-// Writes state and KMCID, the KEK's TVP and fingerprint, and those that a response is awaited for. Answers the place after them.
+// Writes state and KMCID, the KEK's TVP and fingerprint, and those that a response is awaited for. Answers the
+// place after them.
 pub fn put_slot(dst: &mut [u8], at: usize, row: SlotRow) -> usize
     requires { ⌜ at + 123 ≤ length (now dst) ⌝ }
     ensures { λ r. ⌜ Wrote (now (dst .entry)) at (payloadBytes (slotFields row)) (now (dst .exit)) r ⌝ }

@@ -20,21 +20,21 @@ pub fn free_slot() -> SlotRow
     }
 }
 
-// What fits of s into 40 bytes, with zeros after it.
-fn in_forty(s: &[u8]) -> [u8; 40]
-    ensures { λ t. ⌜ t ≡ padded 40 (now (s .entry)) ⌝ }
+// What fits of the bytes into 40 bytes, with zeros after it.
+fn in_forty(bytes: &[u8]) -> [u8; 40]
+    ensures { λ t. ⌜ t ≡ padded 40 (now (bytes .entry)) ⌝ }
 {
     let mut space = [0u8; 40];
-    octets::put(&mut space, 0, octets::front(s, 40));
+    octets::put(&mut space, 0, octets::front(bytes, 40));
     space
 }
 
-// What fits of s into 16 bytes, with zeros after it.
-fn in_sixteen(s: &[u8]) -> [u8; 16]
-    ensures { λ t. ⌜ t ≡ padded 16 (now (s .entry)) ⌝ }
+// What fits of the bytes into 16 bytes, with zeros after it.
+fn in_sixteen(bytes: &[u8]) -> [u8; 16]
+    ensures { λ t. ⌜ t ≡ padded 16 (now (bytes .entry)) ⌝ }
 {
     let mut space = [0u8; 16];
-    octets::put(&mut space, 0, octets::front(s, 16));
+    octets::put(&mut space, 0, octets::front(bytes, 16));
     space
 }
 
@@ -51,23 +51,23 @@ pub fn filled_slot(state: SlotState, kmcid: &[u8], fingerprint: &[u8], tvp: &[u8
 }
 
 // The row in another state, its TVP cleared (SM?KR, SM?KF, GL?RS).
-pub fn moved_slot(a: SlotState, r: SlotRow) -> SlotRow
-    ensures { λ q. ⌜ q ≡ movedSlot a r ⌝ }
+pub fn moved_slot(state: SlotState, row: SlotRow) -> SlotRow
+    ensures { λ q. ⌜ q ≡ movedSlot state row ⌝ }
 {
-    let kmcid = r.kmcid;
-    let fingerprint = r.fingerprint;
-    filled_slot(a, &kmcid, &fingerprint, b"")
+    let kmcid = row.kmcid;
+    let fingerprint = row.fingerprint;
+    filled_slot(state, &kmcid, &fingerprint, b"")
 }
 
 // The row after GL?RS.
-pub fn reset_slot(r: SlotRow) -> SlotRow
-    ensures { λ q. ⌜ q ≡ resetSlot r ⌝ }
+pub fn reset_slot(row: SlotRow) -> SlotRow
+    ensures { λ q. ⌜ q ≡ resetSlot row ⌝ }
 {
-    if slot_tests::has_state(r, SlotState::Pending) {
-        return moved_slot(SlotState::Idle, r);
+    if slot_tests::has_state(row, SlotState::Pending) {
+        return moved_slot(SlotState::Idle, row);
     }
-    if slot_tests::has_state(r, SlotState::Loading) {
-        return moved_slot(SlotState::Idle, r);
+    if slot_tests::has_state(row, SlotState::Loading) {
+        return moved_slot(SlotState::Idle, row);
     }
-    r
+    row
 }

@@ -13,13 +13,13 @@ ghost use Rattle.rows.specs.Places.{placeOf, PlaceWithin};
 ghost use Rattle.rows.specs.Index.{keptName};
 
 // The place of the slot with a name.
-pub fn slot_place(slots: [SlotRow; 8], n: usize, name: &[u8]) -> Place
-    requires { ⌜ n ≤ 8 ⌝ }
-    ensures { λ p. ⌜ placeOf p ≡ firstFrom (isNamed (now (name .entry))) 0 (take n slots) ⌝ }
-    ensures within { λ p. ⌜ PlaceWithin n p ⌝ }
+pub fn slot_place(slots: [SlotRow; 8], slot_count: usize, name: &[u8]) -> Place
+    requires { ⌜ «slot_count» ≤ 8 ⌝ }
+    ensures { λ p. ⌜ placeOf p ≡ firstFrom (isNamed (now (name .entry))) 0 (take «slot_count» slots) ⌝ }
+    ensures within { λ p. ⌜ PlaceWithin «slot_count» p ⌝ }
 {
     let mut i = 0;
-    while i < n {
+    while i < slot_count {
         let r = slots[i];
         if slot_tests::is_named(r, name) {
             return Place::At(i);
@@ -30,13 +30,13 @@ pub fn slot_place(slots: [SlotRow; 8], n: usize, name: &[u8]) -> Place
 }
 
 // The lowest free row.
-pub fn free_place(slots: [SlotRow; 8], n: usize) -> Place
-    requires { ⌜ n ≤ 8 ⌝ }
-    ensures { λ p. ⌜ placeOf p ≡ firstFrom (hasState Free) 0 (take n slots) ⌝ }
-    ensures within { λ p. ⌜ PlaceWithin n p ⌝ }
+pub fn free_place(slots: [SlotRow; 8], slot_count: usize) -> Place
+    requires { ⌜ «slot_count» ≤ 8 ⌝ }
+    ensures { λ p. ⌜ placeOf p ≡ firstFrom (hasState Free) 0 (take «slot_count» slots) ⌝ }
+    ensures within { λ p. ⌜ PlaceWithin «slot_count» p ⌝ }
 {
     let mut k = 0;
-    while k < n {
+    while k < slot_count {
         let r = slots[k];
         if slot_tests::has_state(r, SlotState::Free) {
             return Place::At(k);
@@ -47,12 +47,12 @@ pub fn free_place(slots: [SlotRow; 8], n: usize) -> Place
 }
 
 // Whether each slot row is sound by itself.
-pub fn are_slots_sound(slots: [SlotRow; 8], n: usize) -> bool
-    requires { ⌜ n ≤ 8 ⌝ }
-    ensures { λ b. ⌜ b ≡ everyRow isSlotSound (take n slots) ⌝ }
+pub fn are_slots_sound(slots: [SlotRow; 8], slot_count: usize) -> bool
+    requires { ⌜ «slot_count» ≤ 8 ⌝ }
+    ensures { λ b. ⌜ b ≡ everyRow isSlotSound (take «slot_count» slots) ⌝ }
 {
     let mut i = 0;
-    while i < n {
+    while i < slot_count {
         let r = slots[i];
         if !slot_forms::is_slot_sound(r) {
             return false;
@@ -78,13 +78,13 @@ pub fn names_of(slots: [SlotRow; 8]) -> [[u8; 40]; 8]
 }
 
 // GL?RS: the rows after it.
-pub fn reset_slots(slots: [SlotRow; 8], n: usize) -> [SlotRow; 8]
-    requires { ⌜ n ≤ 8 ⌝ }
-    ensures { λ r. ⌜ r ≡ mapped n resetSlot slots ⌝ }
+pub fn reset_slots(slots: [SlotRow; 8], slot_count: usize) -> [SlotRow; 8]
+    requires { ⌜ «slot_count» ≤ 8 ⌝ }
+    ensures { λ r. ⌜ r ≡ mapped «slot_count» resetSlot slots ⌝ }
 {
     let mut after = slots;
     let mut i = 0;
-    while i < n {
+    while i < slot_count {
         let r = after[i];
         after[i] = slot_rows::reset_slot(r);
         i += 1;

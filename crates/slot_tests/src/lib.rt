@@ -6,10 +6,10 @@ ghost use Rattle.rows.specs.Lists.{trimmed};
 ghost use Rattle.rows.specs.Slots.{stateNumber, hasState, isNamed};
 
 // The number of a state in a row.
-pub fn state_number(a: SlotState) -> u8
-    ensures { λ n. ⌜ n ≡ stateNumber a ⌝ }
+pub fn state_number(state: SlotState) -> u8
+    ensures { λ n. ⌜ n ≡ stateNumber state ⌝ }
 {
-    match a {
+    match state {
         SlotState::Free => 0,
         SlotState::Pending => 1,
         SlotState::Loading => 2,
@@ -18,26 +18,26 @@ pub fn state_number(a: SlotState) -> u8
 }
 
 // Whether the row is in a state.
-pub fn has_state(r: SlotRow, a: SlotState) -> bool
-    ensures { λ b. ⌜ b ≡ hasState a r ⌝ }
+pub fn has_state(row: SlotRow, state: SlotState) -> bool
+    ensures { λ b. ⌜ b ≡ hasState state row ⌝ }
 {
-    r.state == state_number(a)
+    row.state == state_number(state)
 }
 
 // What stands before the first zero.
-pub fn trimmed<'a>(s: &'a [u8]) -> &'a [u8]
-    ensures { λ t. ⌜ now t ≡ trimmed (now (s .entry)) ⌝ }
+pub fn trimmed<'a>(bytes: &'a [u8]) -> &'a [u8]
+    ensures { λ t. ⌜ now t ≡ trimmed (now (bytes .entry)) ⌝ }
 {
-    let first = pieces::piece_end(s, 0, 0);
-    &s[0..first]
+    let first = pieces::piece_end(bytes, 0, 0);
+    &bytes[0..first]
 }
 
 // Whether the row is not free and keeps the KMCID.
-pub fn is_named(r: SlotRow, name: &[u8]) -> bool
-    ensures { λ b. ⌜ b ≡ isNamed (now (name .entry)) r ⌝ }
+pub fn is_named(row: SlotRow, name: &[u8]) -> bool
+    ensures { λ b. ⌜ b ≡ isNamed (now (name .entry)) row ⌝ }
 {
-    if has_state(r, SlotState::Free) {
+    if has_state(row, SlotState::Free) {
         return false;
     }
-    octets::same_bytes(trimmed(&r.kmcid), name)
+    octets::same_bytes(trimmed(&row.kmcid), name)
 }

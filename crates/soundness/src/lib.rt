@@ -1,5 +1,6 @@
-// Question 3 (document 01, "Questions in order"): whether the rows are sound. Rows that are sound by themselves are compared by their names and keys alone; what is found of the
-// registers serves the questions after it, so that no card is searched again.
+// Question 3 (document 01, "Questions in order"): whether the rows are sound. Rows that are sound by themselves are
+// compared by their names and keys alone; what is found of the registers serves the questions after it, so that no
+// card is searched again.
 use register_keys::Findings;
 use rows::SlotRow;
 ghost use mathlib.Core.Path.{_≡_};
@@ -23,21 +24,25 @@ pub fn unsound() -> Findings
     }
 }
 
-// Whether the first n slot rows and the register rows with these cards are sound; and where they are, the keys of the registers and the numbers of their slots.
-pub fn find(slots: [SlotRow; 8], n: usize, cards: &[[u8; 256]]) -> Findings
-    requires { ⌜ (n ≤ 8) × (length (now cards) ≤ 32) ⌝ }
-    ensures { λ f. ⌜ f .sound ≡ areSound (take n slots) (rowsWith (now (cards .entry))) ⌝ }
-    ensures keys { λ f. ⌜ (f .sound ≡ true → take (length (now (cards .entry))) (f .keys) ≡ map keyNumber (rowsWith (now (cards .entry)))) ⌝ }
-    ensures owners { λ f. ⌜ (f .sound ≡ true → take (length (now (cards .entry))) (f .owners) ≡ map (ownerNumber (map keptName (take n slots))) (rowsWith (now (cards .entry)))) ⌝ }
+// Whether the first slot_count slot rows and the register rows with these cards are sound; and where they are, the
+// keys of the registers and the numbers of their slots.
+pub fn find(slots: [SlotRow; 8], slot_count: usize, cards: &[[u8; 256]]) -> Findings
+    requires { ⌜ («slot_count» ≤ 8) × (length (now cards) ≤ 32) ⌝ }
+    ensures { λ f. ⌜ f .sound ≡ areSound (take «slot_count» slots) (rowsWith (now (cards .entry))) ⌝ }
+    ensures keys { λ f. ⌜ (f .sound ≡ true
+        → take (length (now (cards .entry))) (f .keys) ≡ map keyNumber (rowsWith (now (cards .entry)))) ⌝ }
+    ensures owners { λ f. ⌜ (f .sound ≡ true
+        → take (length (now (cards .entry))) (f .owners)
+        ≡ map (ownerNumber (map keptName (take «slot_count» slots))) (rowsWith (now (cards .entry)))) ⌝ }
 {
-    if !slot_tables::are_slots_sound(slots, n) {
+    if !slot_tables::are_slots_sound(slots, slot_count) {
         return unsound();
     }
     let names = slot_tables::names_of(slots);
-    if !slot_names::are_names_distinct(&names[..n]) {
+    if !slot_names::are_names_distinct(&names[..slot_count]) {
         return unsound();
     }
-    let judged = register_keys::judge_registers(cards, &names[..n]);
+    let judged = register_keys::judge_registers(cards, &names[..slot_count]);
     if !judged.sound {
         return unsound();
     }

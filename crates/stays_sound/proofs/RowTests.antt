@@ -5,12 +5,8 @@ use mathlib.Core.List.{List, [], _∷_, map}
 use Prim.Native.Nat.{ℕ, zero, suc}
 use native.Mathlib.Omega.{arith}
 use lib.ListN.{getD, set, replicate}
-use Rattle.octets.proofs.Flags.{nope, and-first, and-second, and-both}
+use Rattle.octets.proofs.Flags.{nope, and-first, and-second, and-both, or-second}
 use Rattle.rows.specs.Lists.{everyRow, someRow, distinctRows}
-
-pub or-second : (a b : Bool) → b ≡ true → (a || b) ≡ true
-or-second true b e = refl
-or-second false b e = e
 
 -- every row still passes after a store, after a sweep, and in rows that are one and the same
 module _ {A : Type 0} (f : A → Bool) where

@@ -8,7 +8,7 @@ use lib.ListN.{length, take, drop, replicate}
 use lib.Seq.{take-at}
 use borrow.Author.Tests.{eqb-true}
 use Rattle.octets.specs.Strings.{isNot, run, allOf}
-use Rattle.octets.proofs.Flags.{nope, and-first, and-second}
+use Rattle.octets.proofs.Flags.{nope, and-first, and-second, or-second}
 use Rattle.octets.proofs.StringLaws.{all-append, all-take, all-drop}
 use Rattle.text.specs.Classes.{isOf, areAll, isAlphanumeric, isMark}
 use Rattle.text.specs.Identifiers.{isIdentifier}
@@ -31,7 +31,6 @@ use Rattle.rows.specs.declared.SlotState.the-variants.{Free, Pending, Loading, 
 use Rattle.rows.proofs.ListLaws.{trimmed-padded, trimmed-all}
 use Rattle.engine.specs.Answers.{loadedCard}
 use Rattle.engine.proofs.RowWords.{free-register-sound}
-use Rattle.stays_sound.proofs.RowTests.{or-second}
 
 -- BYTES IN A SPACE. What fills it is as it was
 pub padded-whole : (n : ℕ) (s : List ℕ) → length s ≡ n → padded n s ≡ s

@@ -5,14 +5,14 @@ ghost use mathlib.Core.Path.{_≡_};
 ghost use Rattle.rows.specs.Supplements.{isIdentityRight, isLoadRequestRight, isWellFormed};
 
 // Whether the module's own record parses and its fields are in form.
-fn is_identity_right(x: Supplement) -> bool
-    ensures { λ r. ⌜ r ≡ isIdentityRight x ⌝ }
+fn is_identity_right(supplement: Supplement) -> bool
+    ensures { λ r. ⌜ r ≡ isIdentityRight supplement ⌝ }
 {
-    let n = x.identity_length;
+    let n = supplement.identity_length;
     if 128 < n {
         return false;
     }
-    let identity = x.identity;
+    let identity = supplement.identity;
     if !identities::is_module_identity(&identity[..n]) {
         return false;
     }
@@ -20,40 +20,40 @@ fn is_identity_right(x: Supplement) -> bool
 }
 
 // Whether the load request is 1 to 700 bytes of text.
-fn is_load_request_right(x: Supplement) -> bool
-    ensures { λ r. ⌜ r ≡ isLoadRequestRight x ⌝ }
+fn is_load_request_right(supplement: Supplement) -> bool
+    ensures { λ r. ⌜ r ≡ isLoadRequestRight supplement ⌝ }
 {
-    let n = x.request_length;
+    let n = supplement.request_length;
     if n < 1 {
         return false;
     }
     if 700 < n {
         return false;
     }
-    let request = x.request;
+    let request = supplement.request;
     text::are_text(&request[..n])
 }
 
 // Whether the supplement is well formed, all of it.
-pub fn is_well_formed(x: Supplement) -> bool
-    ensures { λ r. ⌜ r ≡ isWellFormed x ⌝ }
+pub fn is_well_formed(supplement: Supplement) -> bool
+    ensures { λ r. ⌜ r ≡ isWellFormed supplement ⌝ }
 {
-    if !forms::in_form(Form::Timestamp, &x.clock) {
+    if !forms::in_form(Form::Timestamp, &supplement.clock) {
         return false;
     }
-    if !is_identity_right(x) {
+    if !is_identity_right(supplement) {
         return false;
     }
-    if !is_load_request_right(x) {
+    if !is_load_request_right(supplement) {
         return false;
     }
-    if !forms::in_form(Form::Hex(48), &x.tag) {
+    if !forms::in_form(Form::Hex(48), &supplement.tag) {
         return false;
     }
-    if !forms::in_form(Form::Hex(6), &x.check) {
+    if !forms::in_form(Form::Hex(6), &supplement.check) {
         return false;
     }
-    if 1 < x.passed {
+    if 1 < supplement.passed {
         return false;
     }
     true

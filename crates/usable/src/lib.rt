@@ -26,16 +26,16 @@ fn is_idle(slots: [SlotRow; 8], number: usize) -> bool
 }
 
 // Whether the key in a register, counted from 1, may vend.
-pub fn is_usable(t: Tables, register: usize) -> bool
-    ensures { λ b. ⌜ b ≡ isUsable t register ⌝ }
+pub fn is_usable(tables: Tables, register: usize) -> bool
+    ensures { λ b. ⌜ b ≡ isUsable tables register ⌝ }
 {
-    let n = t.slot_count;
-    let m = t.register_count;
+    let n = tables.slot_count;
+    let m = tables.register_count;
     if !row_counts::are_counts(n, m) {
         return false;
     }
-    let slots = t.slots;
-    let registers = t.registers;
+    let slots = tables.slots;
+    let registers = tables.registers;
     let cards = register_tables::cards_of(registers);
     let f = soundness::find(slots, n, &cards[..m]);
     if !f.sound {
