@@ -1,15 +1,15 @@
 -- From an incoming card every stored value is in form: so what is written of it fits its row, is a card as stored, and reads back.
 use mathlib.Core.Path.{_≡_, refl, sym, ap, subst, _∙_}
 use mathlib.Core.Bool.{Bool, true, false, cond, not, _&&_}
-use mathlib.Core.List.{List, [], _∷_}
+use mathlib.Core.List.{List, [], _∷_, map}
 use mathlib.Core.Option.{Option, none, some}
 use Prim.Native.Nat.{ℕ, zero, suc, _≤_}
 use native.Mathlib.Omega.{arith}
-use lib.Dec.{T, eqb, ltb, leb, le→leb}
+use lib.Dec.{T, eqb, leb, le→leb}
 use lib.ListN.{length, take, drop}
 use borrow.Author.Tests.{eq-eqb, eqb-true}
 use Rattle.octets.specs.Strings.{run, isNot}
-use Rattle.pieces.specs.Pieces.{pieces, isEnded}
+use Rattle.pieces.specs.Pieces.{isEnded}
 use Rattle.octets.proofs.Flags.{nope, and-left, and-right, yes, no, holds}
 use Rattle.text.specs.Classes.{areAll}
 use Rattle.text.specs.declared.Class.the-variants.{Text}
@@ -19,9 +19,9 @@ use Rattle.timestamp.specs.Timestamps.{isTimestamp, timestampOf, momentOf}
 use Rattle.forms.specs.Forms.{inForm}
 use Rattle.forms.specs.declared.Form.the-variants.{Number, Digits, Hex, Name}
 use Rattle.forms.proofs.FormBounds.{most}
-use Rattle.cards.specs.Entries.{nameOf, valueIn, valueOf, orElse, valueOr}
+use Rattle.cards.specs.Entries.{semicolon, entries, isNamed, nameOf, valueIn, valueOf, orElse, valueOr}
 use Rattle.attributes.specs.Table.{CLU, KCV, KRN, KSL, SGC, VND, table, name, presence, form}
-use Rattle.incoming_cards.specs.Incoming.{fits, fitsName, fitFrom, isMet, hasRequired, isCardFrom, isIncoming}
+use Rattle.incoming_cards.specs.Incoming.{fits, fitsName, isFitting, every, ascend, isCard, isMet, hasRequired, isIncoming}
 use Rattle.stored_cards.specs.Stored.{defaultCard, storedValue, cardBytes, storedCard, inRow, isStored}
 use Rattle.attributes.specs.declared.Presence.{Presence}
 use Rattle.attributes.specs.declared.Presence.the-variants.{Required, Optional, Engine}
@@ -47,12 +47,11 @@ by-name p ps n v true q t ih e =
     rw (← m, ← w) t
 by-name p ps n v false q t ih e = ih e
 
-found-fits : (last : ℕ) (ps : List (List ℕ)) → T (fitFrom last ps) → (n : ℕ) (v : List ℕ) → valueIn n ps ≡ some v → T (fitsName table n v)
-found-fits last [] t n v e = nope (cc)
-found-fits last (p ∷ ps) t n v e =
-    let u = and-right (ltb last (nameOf p)) (fitsName table (nameOf p) (drop 3 p) && fitFrom (nameOf p) ps) t in
-    by-name p ps n v (eqb (nameOf p) n) refl (and-left (fitsName table (nameOf p) (drop 3 p)) (fitFrom (nameOf p) ps) u)
-    (found-fits (nameOf p) ps (and-right (fitsName table (nameOf p) (drop 3 p)) (fitFrom (nameOf p) ps) u) n v)
+found-fits : (ps : List (List ℕ)) → T (every isFitting ps) → (n : ℕ) (v : List ℕ) → valueIn n ps ≡ some v → T (fitsName table n v)
+found-fits [] t n v e = nope (cc)
+found-fits (p ∷ ps) t n v e =
+    by-name p ps n v (eqb (nameOf p) n) refl (and-left (isFitting p) (every isFitting ps) t)
+    (found-fits ps (and-right (isFitting p) (every isFitting ps) t) n v)
     e
 
 required-at : (rs : List Attribute) (s : List ℕ) → T (hasRequired rs s) → (k : ℕ) (a : Attribute) (r : List Attribute) → drop k rs ≡ a ∷ r → T (isMet a s)
@@ -102,23 +101,27 @@ isOwn Optional a f = true
 isOwn Engine a f = inForm (form a) (f (name a))
 
 module _ (s : List ℕ) (h : isIncoming s ≡ true) where
-  is-card : T (isCardFrom 0 s)
+  is-card : T (isCard s)
   unfolding isIncoming
-  is-card = and-left (isCardFrom 0 s) (hasRequired table s) (holds (isCardFrom 0 s && hasRequired table s) h)
+  is-card = and-left (isCard s) (hasRequired table s) (holds (isCard s && hasRequired table s) h)
 
   all-there : T (hasRequired table s)
   unfolding isIncoming
-  all-there = and-right (isCardFrom 0 s) (hasRequired table s) (holds (isCardFrom 0 s && hasRequired table s) h)
+  all-there = and-right (isCard s) (hasRequired table s) (holds (isCard s && hasRequired table s) h)
 
-  all-fit : T (fitFrom 0 (pieces 59 s))
-  unfolding isCardFrom
-  all-fit = and-right (isEnded 59 s) (fitFrom 0 (pieces 59 s)) is-card
+  all-fit : T (every isFitting (entries s))
+  unfolding isCard
+  all-fit =
+      let a = ascend (map nameOf (entries s)) in
+      let n = every isNamed (entries s) in
+      let f = every isFitting (entries s) in
+      and-right a f (and-right n (a && f) (and-right (isEnded semicolon s) (n && (a && f)) is-card))
 
   module _ (k : ℕ) (a : Attribute) (r : List Attribute) (e : drop k table ≡ a ∷ r) where
     value-fits : (v : List ℕ) → valueOf (name a) s ≡ some v → T (fits a v)
     value-fits v q =
-        let p : valueIn (name a) (pieces 59 s) ≡ some v = a-name s (name a) (λ z. omega (arith, name-some k a r e)) ∙ q in
-        rw (fits-at table all-distinct k a r e v) at (found-fits 0 (pieces 59 s) all-fit (name a) v p)
+        let p : valueIn (name a) (entries s) ≡ some v = a-name s (name a) (λ z. omega (arith, name-some k a r e)) ∙ q in
+        rw (fits-at table all-distinct k a r e v) at (found-fits (entries s) all-fit (name a) v p)
 
     -- o is what the card has under the name
     required-there : presence a ≡ Required → (o : Option (List ℕ)) → valueOf (name a) s ≡ o → o ≡ some (orElse o (orElse (valueOf (name a) defaultCard) []))

@@ -2,7 +2,7 @@
 use mathlib.Core.Path.{_≡_, refl, ap}
 use mathlib.Core.Bool.{Bool, true, false, cond, not, _&&_}
 use mathlib.Core.List.{List, [], _∷_, _++_}
-use Prim.Native.Nat.{ℕ, suc, _+_, _*_, _<_}
+use Prim.Native.Nat.{ℕ, suc, _+_, _<_}
 use native.Mathlib.Numerals.{add-one}
 use native.Mathlib.Omega.{arith}
 use lib.Dec.{T, eqb, ltb, ltb→lt}
@@ -10,14 +10,14 @@ use lib.ListN.{length, take, drop}
 use borrow.Author.Tests.{ltb-true, eqb-true}
 use Rattle.octets.specs.Strings.{run, isNot, allOf}
 use Rattle.octets.proofs.Flags.{and-first, and-second, and-both, and-left, and-right}
-use Rattle.octets.proofs.StringLaws.{all-parts}
+use Rattle.octets.proofs.StringLaws.{all-parts, all-wider}
 use Rattle.text.specs.Classes.{isOf, areAll}
 use Rattle.text.specs.declared.Class.the-variants.{Capital, Text, Zero}
 use Rattle.text.proofs.Printable.{Within, wider}
 use Rattle.forms.specs.Forms.{inForm}
 use Rattle.forms.proofs.FormBounds.{in-form-text}
 use Rattle.cards.specs.Entries.{nameOf}
-use Rattle.cards.proofs.EntryLaws.{name-length}
+use Rattle.cards.proofs.EntryLaws.{name-capitals}
 use Rattle.attributes.specs.Table.{table, name, form}
 use Rattle.attributes.specs.declared.Attribute.{Attribute}
 use Rattle.attributes.proofs.TableLaws.{allRows}
@@ -52,19 +52,8 @@ module _ (x : Attribute) (rs : List Attribute) (s : List ℕ) (e : isStoredFrom 
 capital-text : Within Capital Text
 capital-text b = wider b 65 90 32 125 (omega arith) (omega arith)
 
-some-if : (t : Bool) (n : ℕ) → 0 < cond t n 0 → t ≡ true
-some-if true n h = refl
-some-if false n h = absurd (omega arith)
-
 name-text : (p : List ℕ) → 0 < nameOf p → allOf (isOf Text) (take 3 p) ≡ true
-unfolding nameOf
-name-text [] h = refl
-name-text (a ∷ []) h = absurd (omega (arith, name-length (a ∷ []) h))
-name-text (a ∷ b ∷ []) h = absurd (omega (arith, name-length (a ∷ b ∷ []) h))
-name-text (a ∷ b ∷ c ∷ v) h =
-    let t = some-if (isOf Capital a && (isOf Capital b && isOf Capital c)) (a * 65536 + b * 256 + c) h in
-    let u = and-second (isOf Capital a) (isOf Capital b && isOf Capital c) t in
-    rw (capital-text a (and-first (isOf Capital a) (isOf Capital b && isOf Capital c) t), capital-text b (and-first (isOf Capital b) (isOf Capital c) u), capital-text c (and-second (isOf Capital b) (isOf Capital c) u))
+name-text p h = all-wider (isOf Capital) (isOf Text) capital-text (take 3 p) (name-capitals p h)
 
 -- a list is what stands before its first delimiter, the delimiter, and the rest
 parted : (d : ℕ) (s : List ℕ) → run (isNot d) s < length s → s ≡ take (run (isNot d) s) s ++ (d ∷ drop (run (isNot d) s + 1) s)
