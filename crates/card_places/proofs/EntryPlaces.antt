@@ -21,9 +21,8 @@ use Rattle.forms.specs.Forms.{isAlgorithm, inForm}
 use Rattle.forms.specs.declared.Form.{Form}
 use Rattle.forms.specs.declared.Form.the-variants.{Timestamp, Algorithm, Number, Digits, Hex, HexSome, Name, Empty}
 use Rattle.forms.proofs.FormBounds.{in-form-plain, semicolon}
-use Rattle.cards.specs.Entries.{nameOf}
+use Rattle.cards.specs.Entries.{entryLength, nameOf}
 use Rattle.cards.proofs.EntryLaws.{name-length, name-capitals}
-use Rattle.stored_cards.specs.Stored.{entryLength}
 use Rattle.card_places.specs.Places.{startsWith, isLong}
 
 -- the length of a value in such a form

@@ -9,10 +9,9 @@ use Rattle.text.specs.declared.Class.the-variants.{Zero}
 use Rattle.forms.specs.Forms.{inForm}
 use Rattle.forms.specs.declared.Form.{Form}
 use Rattle.forms.specs.declared.Form.the-variants.{Timestamp, Algorithm, Number, Digits, Hex, HexSome, Name, Empty}
-use Rattle.cards.specs.Entries.{nameOf}
+use Rattle.cards.specs.Entries.{entryLength, nameOf}
 use Rattle.attributes.specs.Table.{name, form}
 use Rattle.attributes.specs.declared.Attribute.{Attribute}
-use Rattle.stored_cards.specs.Stored.{entryLength}
 use Rattle.patterns.specs.Patterns.{fits}
 
 -- s starts with an entry of the name, its value in form

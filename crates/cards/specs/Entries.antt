@@ -6,6 +6,7 @@ use mathlib.Core.List.{List, [], _∷_, _++_}
 use mathlib.Core.Option.{Option, none, some}
 use lib.Dec.{eqb}
 use lib.ListN.{getD, take, drop}
+use Rattle.octets.specs.Strings.{run, isNot}
 use Rattle.octets.specs.Texts.{all}
 use Rattle.pieces.specs.Pieces.{pieces}
 use Rattle.text.specs.Classes.{isOf}
@@ -21,6 +22,10 @@ semicolon = code ";"
 -- the entries of a card, each without its semicolon
 abbrev pub entries : List ℕ → List (List ℕ)
 entries card = pieces semicolon card
+
+-- how long the first entry of a list is, without its semicolon
+abbrev pub entryLength : List ℕ → ℕ
+entryLength s = run (isNot semicolon) s
 
 -- an entry starts with a name of three capitals
 abbrev pub isNamed : List ℕ → Bool
