@@ -15,23 +15,38 @@ use Rattle.cards.specs.Entries.{semicolon, entries, nameOf, valueOr, entryBytes
 use Rattle.attributes.specs.Table.{CLU, KCV, KSL, VND, table, name, form}
 use Rattle.attributes.specs.declared.Attribute.{Attribute}
 
--- the default card (001 example 6.3.5.4): CLMFFFFFFFF;IUT20380119T031407Z;SBMFFFF;ULM999999999;
+-- the default card (001 example 6.3.5.4)
 unfoldable pub defaultCard : List ℕ
-defaultCard =
-    text "CLMFFFFFFFF;IUT20380119T031407Z;SBMFFFF;ULM999999999;"
+defaultCard = text "CLMFFFFFFFF;IUT20380119T031407Z;SBMFFFF;ULM999999999;"
+
+-- the values that belong to the engine
+pub record EngineValues : Type 0 where
+  pub clu : List ℕ
+  pub kcv : List ℕ
+  pub ksl : List ℕ
+  pub vnd : List ℕ
+
+-- at a load: CLU and VND start at 0, KCV is the supplement's check value, KSL the slot's identifier
+abbrev pub loadValues : List ℕ → List ℕ → EngineValues
+loadValues check slot = record { clu = text "0"; kcv = check; ksl = slot; vnd = text "0" }
 
 -- the value that is stored under a name: the engine's own, else the incoming card's, else the default card's
-unfoldable pub storedValue : List ℕ → List ℕ → List ℕ → List ℕ → List ℕ → ℕ → List ℕ
-storedValue card clu kcv ksl vnd n =
-    cond (eqb n CLU) clu (cond (eqb n KCV) kcv (cond (eqb n KSL) ksl (cond (eqb n VND) vnd (valueOr n card defaultCard))))
+unfoldable pub storedValue : List ℕ → EngineValues → ℕ → List ℕ
+storedValue card own n =
+    cond (eqb n CLU) (own .clu)
+    (cond (eqb n KCV) (own .kcv)
+    (cond (eqb n KSL) (own .ksl)
+    (cond (eqb n VND) (own .vnd)
+    (valueOr n card defaultCard))))
 
 -- an entry for each attribute, with the value that f gives its name
 abbrev pub cardBytes : List Attribute → (ℕ → List ℕ) → List ℕ
 cardBytes [] f = []
 cardBytes (a ∷ rs) f = entryBytes (name a) (f (name a)) ++ cardBytes rs f
 
-unfoldable pub storedCard : List ℕ → List ℕ → List ℕ → List ℕ → List ℕ → List ℕ
-storedCard card clu kcv ksl vnd = cardBytes table (storedValue card clu kcv ksl vnd)
+-- the stored card has all fifteen, ascending
+unfoldable pub storedCard : List ℕ → EngineValues → List ℕ
+storedCard card own = cardBytes table (storedValue card own)
 
 -- in 256 bytes of space, zero after its end
 unfoldable pub inRow : List ℕ → List ℕ
