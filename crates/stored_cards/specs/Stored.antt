@@ -1,5 +1,5 @@
--- The stored card, which has all fifteen attributes, and the test of a card as stored (document 01, Cards, "Questions in
--- order" 3).
+-- The stored card, which has all fifteen attributes, and the test of a card as stored (document 01, Cards and
+-- question 3).
 use Prim.Native.Nat.{ℕ, _-_}
 use mathlib.Core.Bool.{Bool, true, false, cond, _&&_}
 use mathlib.Core.List.{List, [], _∷_, _++_}
