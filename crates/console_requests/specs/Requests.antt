@@ -1,4 +1,5 @@
--- A request that the console hands in (docs/CONSOLE.md): the call that it makes, the state after it, and the line of its answer.
+-- A request that the console hands in (docs/CONSOLE.md): the call that it makes, the state after it, and the line of
+-- its answer.
 use Prim.Native.Nat.{ℕ}
 use mathlib.Core.Bool.{cond}
 use mathlib.Core.List.{List}
@@ -28,4 +29,7 @@ answeredBy c request = withTables (tablesAfter (c .tables) (answerOf (callBy c r
 -- the line of a request's answer is printed; SM?GL's list is in some sequence
 abbrev pub SaysAnswer : Console → ℕ → List ℕ → List ℕ → List ℕ → ℕ → Type 0
 SaysAnswer c number request before now n =
-    InSomeSequence (slotRows (c .tables)) (λ (names : List (List ℕ)). Wrote before 0 (outcomeLine number (answerOf (callBy c request) .outcome) (answerOf (callBy c request) .response names)) now n)
+    InSomeSequence (slotRows (c .tables)) (λ (names : List (List ℕ)).
+    Wrote before 0
+    (outcomeLine number (answerOf (callBy c request) .outcome) (answerOf (callBy c request) .response names))
+    now n)
