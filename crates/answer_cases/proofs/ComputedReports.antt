@@ -22,7 +22,7 @@ use Rattle.records.specs.Records.{bodyOf, field, isRecord}
 use Rattle.forms.specs.Forms.{isAlgorithm}
 use Rattle.attributes.specs.Table.{table}
 use Rattle.cards.specs.Entries.{nameOf, valueOf}
-use Rattle.incoming_cards.specs.Incoming.{fits, isCardFrom, isMet, isIncoming}
+use Rattle.incoming_cards.specs.Incoming.{fits, isCard, isMet, isIncoming}
 use Rattle.stored_cards.specs.Stored.{inRow, isEntryOf, isStored}
 use Rattle.identities.specs.Identities.{identityInForm}
 use Rattle.key_records.specs.KeyRecords.{keyInForm}
@@ -110,7 +110,7 @@ EachReported [] = Unit {0}
 EachReported (r ∷ rs) = (response (answerOf (callOf reported (hand (r .request)))) (r .sequence) ≡ r .answer) × EachReported rs
 
 pub each-reported : EachReported reports
-unfolding crcBit crcEight crcByte hexDigit sumDigits endsInSum isAlphanumeric areAll isIdentifier isUnpadded isNumber daysIn isDate isTime isDateAndTime timestampOf isTimestamp typed valuesOf contentBytes endsInReturn isWhole isChecked textOf headerOf payloadOf ending framed answered headers commandOf replyBytes bodyOf field isRecord isAlgorithm table nameOf valueOf fits isCardFrom isMet isIncoming identityInForm keyInForm padded trimmed isVacant attributeOf isRegisterSound isSameKey freeRegister isZeroSlot isNamed isFilledSlot isSlotSound isSameSlot freeSlot filledSlot isOwned areSound isIdentityRight isLoadRequestRight isWellFormed areFieldsOf recordIn areCounts questions refused answers.answered listed answerOf isStored isEntryOf inRow filledRegister isOctets isUnder isKeyOf slotIn slotNamed isFilled slotNames stateText slotFields queryFields decDigits decimalBytes
+unfolding crcBit crcEight crcByte hexDigit sumDigits endsInSum isAlphanumeric areAll isIdentifier isUnpadded isNumber daysIn isDate isTime isDateAndTime timestampOf isTimestamp typed valuesOf contentBytes endsInReturn isWhole isChecked textOf headerOf payloadOf ending framed answered headers commandOf replyBytes bodyOf field isRecord isAlgorithm table nameOf valueOf fits isCard isMet isIncoming identityInForm keyInForm padded trimmed isVacant attributeOf isRegisterSound isSameKey freeRegister isZeroSlot isNamed isFilledSlot isSlotSound isSameSlot freeSlot filledSlot isOwned areSound isIdentityRight isLoadRequestRight isWellFormed areFieldsOf recordIn areCounts questions refused answers.answered listed answerOf isStored isEntryOf inRow filledRegister isOctets isUnder isKeyOf slotIn slotNamed isFilled slotNames stateText slotFields queryFields decDigits decimalBytes
 each-reported = (refl, (refl, (refl, (refl, (refl, (refl, tt))))))
 
 -- which key may vend: that of register 1, under B, where B is IDLE, and not while B is PENDING or LOADING; no register that is free, 0 or beyond the rows

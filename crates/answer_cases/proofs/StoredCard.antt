@@ -16,7 +16,7 @@ use Rattle.cards.specs.Entries.{nameOf, valueOf, orElse, valueOr}
 use Rattle.attributes.specs.Table.{ACT, BDT, CLM, CLU, DKG, IUT, KCV, KEN, KRN, KSL, KTC, SBM, SGC, ULM, VND, table, name, presence}
 use Rattle.attributes.specs.declared.Presence.the-variants.{Required, Optional, Engine}
 use Rattle.attributes.specs.declared.Attribute.{Attribute}
-use Rattle.stored_cards.specs.Stored.{defaultCard, storedValue, inRow}
+use Rattle.stored_cards.specs.Stored.{defaultCard, loadValues, storedValue, inRow}
 use Rattle.card_laws.proofs.Incoming.{stored-back, required-back, stored-measured}
 use Rattle.commands.specs.declared.Command.{Command}
 use Rattle.commands.specs.declared.Command.the-variants.{KL}
@@ -121,11 +121,11 @@ module _ (x : Call) (c : commandIn (x .request) ≡ KL) (y : isYes (answerOf x .
   -- an attribute of the table
   module _ (j : ℕ) (a : Attribute) (r : List Attribute) (e : drop j table ≡ a ∷ r) where
     abbrev value : List ℕ
-    value = storedValue card zero (x .supplement .check) slot zero (name a)
+    value = storedValue card (loadValues (x .supplement .check) slot) (name a)
 
     row-has : valueOf (name a) (row .card) ≡ some value
     unfolding filledRegister loadedCard areAll isNumber isUnpadded
-    row-has = rw row-is (stored-back card (is-card x vs yes) zero (x .supplement .check) slot zero refl (is-check x vs yes) (is-name x vs yes) refl j a r e)
+    row-has = rw row-is (stored-back card (is-card x vs yes) (loadValues (x .supplement .check) slot) refl (is-check x vs yes) (is-name x vs yes) refl j a r e)
 
     -- reads back what is stored under its name,
     pub stored-reads : attributeOf (name a) row ≡ value
@@ -136,7 +136,7 @@ module _ (x : Call) (c : commandIn (x .request) ≡ KL) (y : isYes (answerOf x .
     pub required-reads : presence a ≡ Required → valueOf (name a) card ≡ some (attributeOf (name a) row)
     unfolding filledRegister loadedCard areAll isNumber isUnpadded
     required-reads q =
-        let b = required-back card (is-card x vs yes) zero (x .supplement .check) slot zero refl (is-check x vs yes) (is-name x vs yes) refl j a r e q in
+        let b = required-back card (is-card x vs yes) (loadValues (x .supplement .check) slot) refl (is-check x vs yes) (is-name x vs yes) refl j a r e q in
         let w : valueOf (name a) (row .card) ≡ valueOf (name a) card = rw row-is b in
         sym w ∙ row-has ∙ ap some (sym stored-reads)
 
@@ -164,7 +164,7 @@ module _ (x : Call) (c : commandIn (x .request) ≡ KL) (y : isYes (answerOf x .
   -- SM?GA shows it without the zeros: the stored card itself
   pub shown-card : storedIn row ≡ loadedCard card (x .supplement .check) slot
   unfolding filledRegister loadedCard trimmed areAll isNumber isUnpadded
-  shown-card = rw row-is (stored-measured card (is-card x vs yes) zero (x .supplement .check) slot zero refl (is-check x vs yes) (is-name x vs yes) refl)
+  shown-card = rw row-is (stored-measured card (is-card x vs yes) (loadValues (x .supplement .check) slot) refl (is-check x vs yes) (is-name x vs yes) refl)
 
   -- the reply's register is that place, counted from 1, and its card the row's, where the count of registers is the rows'
   module _ (n : x .registerCount ≡ length (x .registers)) (names : List (List ℕ)) where

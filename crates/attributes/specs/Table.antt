@@ -1,59 +1,65 @@
 -- The attributes of a card (001 Annex F Table F.1; 003 Appendix B; document 01, Cards).
 use mathlib.Core.List.{List, [], _∷_}
-use Prim.Native.Nat.{ℕ}
+use Prim.Native.Nat.{ℕ, _+_, _*_}
+use lib.ListN.{getD}
+use Rattle.octets.specs.Texts.{text}
 use Rattle.forms.specs.declared.Form.{Form}
 use Rattle.forms.specs.declared.Form.the-variants.{Timestamp, Algorithm, Number, Digits, Hex, Name}
 use Rattle.attributes.specs.declared.Presence.{Presence}
 use Rattle.attributes.specs.declared.Presence.the-variants.{Required, Optional, Engine}
 use Rattle.attributes.specs.declared.Attribute.{Attribute}
 
--- the names, each as a number: its three letters, the first highest
+-- a name as a number: its three letters, the first highest
+abbrev pub nameNumber : List ℕ → ℕ
+nameNumber s = getD s 0 0 * 65536 + getD s 1 0 * 256 + getD s 2 0
+
 abbrev pub ACT : ℕ
-ACT = 0x414354
+ACT = nameNumber (text "ACT")
 
 abbrev pub BDT : ℕ
-BDT = 0x424454
+BDT = nameNumber (text "BDT")
 
 abbrev pub CLM : ℕ
-CLM = 0x434C4D
+CLM = nameNumber (text "CLM")
 
 abbrev pub CLU : ℕ
-CLU = 0x434C55
+CLU = nameNumber (text "CLU")
 
 abbrev pub DKG : ℕ
-DKG = 0x444B47
+DKG = nameNumber (text "DKG")
 
 abbrev pub IUT : ℕ
-IUT = 0x495554
+IUT = nameNumber (text "IUT")
 
 abbrev pub KCV : ℕ
-KCV = 0x4B4356
+KCV = nameNumber (text "KCV")
 
 abbrev pub KEN : ℕ
-KEN = 0x4B454E
+KEN = nameNumber (text "KEN")
 
 abbrev pub KRN : ℕ
-KRN = 0x4B524E
+KRN = nameNumber (text "KRN")
 
 abbrev pub KSL : ℕ
-KSL = 0x4B534C
+KSL = nameNumber (text "KSL")
 
 abbrev pub KTC : ℕ
-KTC = 0x4B5443
+KTC = nameNumber (text "KTC")
 
 abbrev pub SBM : ℕ
-SBM = 0x53424D
+SBM = nameNumber (text "SBM")
 
 abbrev pub SGC : ℕ
-SGC = 0x534743
+SGC = nameNumber (text "SGC")
 
 abbrev pub ULM : ℕ
-ULM = 0x554C4D
+ULM = nameNumber (text "ULM")
 
 abbrev pub VND : ℕ
-VND = 0x564E44
+VND = nameNumber (text "VND")
 
--- an attribute: its name; whether an incoming card must have it, may have it, or it belongs to the engine; the form of its value
+-- an attribute: its name; whether an incoming card must have it, may have it, or it belongs to the engine; the form of
+-- its value
 abbrev pub name : Attribute → ℕ
 name a = a .0
 
@@ -63,24 +69,24 @@ presence a = a .1
 abbrev pub form : Attribute → Form
 form a = a .2
 
--- all fifteen, ascending by name
+-- all fifteen, ascending by name; behind each what document 01 (Cards) says of its value, and Table F.1's type
 unfoldable pub table : List Attribute
 table =
-    (ACT, Required, Timestamp)
-    ∷ (BDT, Required, Timestamp)
-    ∷ (CLM, Optional, Hex 8)
-    ∷ (CLU, Engine, Number 1 0 0)
-    ∷ (DKG, Required, Algorithm)
-    ∷ (IUT, Optional, Timestamp)
-    ∷ (KCV, Engine, Hex 6)
-    ∷ (KEN, Required, Number 3 0 255)
-    ∷ (KRN, Required, Number 1 1 9)
-    ∷ (KSL, Engine, Name)
-    ∷ (KTC, Required, Number 1 0 3)
-    ∷ (SBM, Optional, Hex 4)
-    ∷ (SGC, Required, Digits 10)
-    ∷ (ULM, Optional, Number 9 0 999999999)
-    ∷ (VND, Engine, Number 9 0 999999999)
+    (ACT, Required, Timestamp)  -- timestamp; TIMESTAMP
+    ∷ (BDT, Required, Timestamp)  -- timestamp; TIMESTAMP
+    ∷ (CLM, Optional, Hex 8)  -- 8 hexadecimal digits; 8H
+    ∷ (CLU, Engine, Number 1 0 0)  -- starts at 0, and 0 by question 3; 1-10D
+    ∷ (DKG, Required, Algorithm)  -- 02 or 04; 2D
+    ∷ (IUT, Optional, Timestamp)  -- timestamp; TIMESTAMP
+    ∷ (KCV, Engine, Hex 6)  -- the supplement's check value; 6H
+    ∷ (KEN, Required, Number 3 0 255)  -- 0 to 255; 3D
+    ∷ (KRN, Required, Number 1 1 9)  -- 1 to 9; 1D
+    ∷ (KSL, Engine, Name)  -- the slot's identifier; IDENT
+    ∷ (KTC, Required, Number 1 0 3)  -- 0 to 3; 1D
+    ∷ (SBM, Optional, Hex 4)  -- 4 hexadecimal digits; 4H
+    ∷ (SGC, Required, Digits 10)  -- ten digits; 10D
+    ∷ (ULM, Optional, Number 9 0 999999999)  -- 0 to 999999999; 1-9D
+    ∷ (VND, Engine, Number 9 0 999999999)  -- starts at 0, and 0 to 999999999 by question 3; 1D
     ∷ []
 
 -- how many they are

@@ -49,12 +49,12 @@ pub struct Attribute(pub u32, pub Presence, pub Form);
 
 pub const ROWS: usize = 15;
 
-// The k-th attribute. A match, since a table that is indexed would be laid out anew at each call.
-pub fn row(k: usize) -> Attribute
-    requires { ⌜ k < rows ⌝ }
-    ensures { λ r. ⌜ drop k table ≡ r ∷ drop (k + 1) table ⌝ }
+// An attribute by its index. A match, since a table that is indexed would be laid out anew at each call.
+pub fn row(index: usize) -> Attribute
+    requires { ⌜ index < rows ⌝ }
+    ensures { λ r. ⌜ drop index table ≡ r ∷ drop (index + 1) table ⌝ }
 {
-    match k {
+    match index {
         0 => Attribute(ACT, Presence::Required, Form::Timestamp),
         1 => Attribute(BDT, Presence::Required, Form::Timestamp),
         2 => Attribute(CLM, Presence::Optional, Form::Hex(8)),

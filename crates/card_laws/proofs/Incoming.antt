@@ -1,15 +1,15 @@
 -- From an incoming card every stored value is in form: so what is written of it fits its row, is a card as stored, and reads back.
 use mathlib.Core.Path.{_≡_, refl, sym, ap, subst, _∙_}
 use mathlib.Core.Bool.{Bool, true, false, cond, not, _&&_}
-use mathlib.Core.List.{List, [], _∷_}
+use mathlib.Core.List.{List, [], _∷_, map}
 use mathlib.Core.Option.{Option, none, some}
 use Prim.Native.Nat.{ℕ, zero, suc, _≤_}
 use native.Mathlib.Omega.{arith}
-use lib.Dec.{T, eqb, ltb, leb, le→leb}
+use lib.Dec.{T, eqb, leb, le→leb}
 use lib.ListN.{length, take, drop}
 use borrow.Author.Tests.{eq-eqb, eqb-true}
 use Rattle.octets.specs.Strings.{run, isNot}
-use Rattle.pieces.specs.Pieces.{pieces, isEnded}
+use Rattle.pieces.specs.Pieces.{isEnded}
 use Rattle.octets.proofs.Flags.{nope, and-left, and-right, yes, no, holds}
 use Rattle.text.specs.Classes.{areAll}
 use Rattle.text.specs.declared.Class.the-variants.{Text}
@@ -19,10 +19,10 @@ use Rattle.timestamp.specs.Timestamps.{isDateAndTime, isTimestamp}
 use Rattle.forms.specs.Forms.{inForm}
 use Rattle.forms.specs.declared.Form.the-variants.{Number, Digits, Hex, Name}
 use Rattle.forms.proofs.FormBounds.{most}
-use Rattle.cards.specs.Entries.{nameOf, valueIn, valueOf, orElse, valueOr}
+use Rattle.cards.specs.Entries.{semicolon, entries, isNamed, nameOf, valueIn, valueOf, orElse, valueOr}
 use Rattle.attributes.specs.Table.{CLU, KCV, KRN, KSL, SGC, VND, table, name, presence, form}
-use Rattle.incoming_cards.specs.Incoming.{fits, fitsName, fitFrom, isMet, hasRequired, isCardFrom, isIncoming}
-use Rattle.stored_cards.specs.Stored.{defaultCard, storedValue, cardBytes, storedCard, inRow, isStored}
+use Rattle.incoming_cards.specs.Incoming.{fits, fitsName, isFitting, every, ascend, isCard, isMet, hasRequired, isIncoming}
+use Rattle.stored_cards.specs.Stored.{EngineValues, defaultCard, storedValue, cardBytes, storedCard, inRow, isStored}
 use Rattle.attributes.specs.declared.Presence.{Presence}
 use Rattle.attributes.specs.declared.Presence.the-variants.{Required, Optional, Engine}
 use Rattle.attributes.specs.declared.Attribute.{Attribute}
@@ -47,12 +47,11 @@ by-name p ps n v true q t ih e =
     rw (← m, ← w) t
 by-name p ps n v false q t ih e = ih e
 
-found-fits : (last : ℕ) (ps : List (List ℕ)) → T (fitFrom last ps) → (n : ℕ) (v : List ℕ) → valueIn n ps ≡ some v → T (fitsName table n v)
-found-fits last [] t n v e = nope (cc)
-found-fits last (p ∷ ps) t n v e =
-    let u = and-right (ltb last (nameOf p)) (fitsName table (nameOf p) (drop 3 p) && fitFrom (nameOf p) ps) t in
-    by-name p ps n v (eqb (nameOf p) n) refl (and-left (fitsName table (nameOf p) (drop 3 p)) (fitFrom (nameOf p) ps) u)
-    (found-fits (nameOf p) ps (and-right (fitsName table (nameOf p) (drop 3 p)) (fitFrom (nameOf p) ps) u) n v)
+found-fits : (ps : List (List ℕ)) → T (every isFitting ps) → (n : ℕ) (v : List ℕ) → valueIn n ps ≡ some v → T (fitsName table n v)
+found-fits [] t n v e = nope (cc)
+found-fits (p ∷ ps) t n v e =
+    by-name p ps n v (eqb (nameOf p) n) refl (and-left (isFitting p) (every isFitting ps) t)
+    (found-fits ps (and-right (isFitting p) (every isFitting ps) t) n v)
     e
 
 required-at : (rs : List Attribute) (s : List ℕ) → T (hasRequired rs s) → (k : ℕ) (a : Attribute) (r : List Attribute) → drop k rs ≡ a ∷ r → T (isMet a s)
@@ -84,9 +83,9 @@ unfolding table
 all-incomings = tt
 
 -- such a name's value is the card's or the default card's
-from-card : (card clu kcv ksl vnd : List ℕ) (n : ℕ) → T (isNotOwn n) → storedValue card clu kcv ksl vnd n ≡ valueOr n card defaultCard
+from-card : (card : List ℕ) (own : EngineValues) (n : ℕ) → T (isNotOwn n) → storedValue card own n ≡ valueOr n card defaultCard
 unfolding storedValue
-from-card card clu kcv ksl vnd n t =
+from-card card own n t =
     let a = not (eqb n CLU) in
     let b = not (eqb n KCV) in
     let c = not (eqb n KSL) in
@@ -102,23 +101,27 @@ isOwn Optional a f = true
 isOwn Engine a f = inForm (form a) (f (name a))
 
 module _ (s : List ℕ) (h : isIncoming s ≡ true) where
-  is-card : T (isCardFrom 0 s)
+  is-card : T (isCard s)
   unfolding isIncoming
-  is-card = and-left (isCardFrom 0 s) (hasRequired table s) (holds (isCardFrom 0 s && hasRequired table s) h)
+  is-card = and-left (isCard s) (hasRequired table s) (holds (isCard s && hasRequired table s) h)
 
   all-there : T (hasRequired table s)
   unfolding isIncoming
-  all-there = and-right (isCardFrom 0 s) (hasRequired table s) (holds (isCardFrom 0 s && hasRequired table s) h)
+  all-there = and-right (isCard s) (hasRequired table s) (holds (isCard s && hasRequired table s) h)
 
-  all-fit : T (fitFrom 0 (pieces 59 s))
-  unfolding isCardFrom
-  all-fit = and-right (isEnded 59 s) (fitFrom 0 (pieces 59 s)) is-card
+  all-fit : T (every isFitting (entries s))
+  unfolding isCard
+  all-fit =
+      let a = ascend (map nameOf (entries s)) in
+      let n = every isNamed (entries s) in
+      let f = every isFitting (entries s) in
+      and-right a f (and-right n (a && f) (and-right (isEnded semicolon s) (n && (a && f)) is-card))
 
   module _ (k : ℕ) (a : Attribute) (r : List Attribute) (e : drop k table ≡ a ∷ r) where
     value-fits : (v : List ℕ) → valueOf (name a) s ≡ some v → T (fits a v)
     value-fits v q =
-        let p : valueIn (name a) (pieces 59 s) ≡ some v = a-name s (name a) (λ z. omega (arith, name-some k a r e)) ∙ q in
-        rw (fits-at table all-distinct k a r e v) at (found-fits 0 (pieces 59 s) all-fit (name a) v p)
+        let p : valueIn (name a) (entries s) ≡ some v = a-name s (name a) (λ z. omega (arith, name-some k a r e)) ∙ q in
+        rw (fits-at table all-distinct k a r e v) at (found-fits (entries s) all-fit (name a) v p)
 
     -- o is what the card has under the name
     required-there : presence a ≡ Required → (o : Option (List ℕ)) → valueOf (name a) s ≡ o → o ≡ some (orElse o (orElse (valueOf (name a) defaultCard) []))
@@ -146,23 +149,22 @@ module _ (s : List ℕ) (h : isIncoming s ≡ true) where
     unfolding valueOr
     required-in-form q = rw (required-own q) (yes (inForm (form a) (valueOr (name a) s defaultCard)) (required-value q (valueOf (name a) s) refl))
 
-  -- clu, kcv, ksl and vnd are the engine's values
-  module _ (clu kcv ksl vnd : List ℕ) where
+  module _ (own : EngineValues) where
     abbrev value : ℕ → List ℕ
-    value = storedValue s clu kcv ksl vnd
+    value = storedValue s own
 
     row-in-form : T (allRows (λ (a : Attribute). isOwn (presence a) a value) table) → (k : ℕ) (a : Attribute) (r : List Attribute) → drop k table ≡ a ∷ r
         → (q : Presence) → presence a ≡ q → T (isInForm value a)
     unfolding valueOr
     row-in-form o k a r e Required q =
-        rw (from-card s clu kcv ksl vnd (name a) (rw q at (at-row (λ (x : Attribute). isIncomings (presence x) (name x)) table all-incomings k a r e)))
+        rw (from-card s own (name a) (rw q at (at-row (λ (x : Attribute). isIncomings (presence x) (name x)) table all-incomings k a r e)))
         (required-value k a r e q (valueOf (name a) s) refl)
     row-in-form o k a r e Optional q =
-        rw (from-card s clu kcv ksl vnd (name a) (rw q at (at-row (λ (x : Attribute). isIncomings (presence x) (name x)) table all-incomings k a r e)))
+        rw (from-card s own (name a) (rw q at (at-row (λ (x : Attribute). isIncomings (presence x) (name x)) table all-incomings k a r e)))
         (optional-value k a r e q (valueOf (name a) s) refl)
     row-in-form o k a r e Engine q = rw q at (at-row (λ (x : Attribute). isOwn (presence x) x value) table o k a r e)
 
-    module _ (a : inForm (Number 1 0 0) clu ≡ true) (b : inForm (Hex 6) kcv ≡ true) (c : inForm Name ksl ≡ true) (d : inForm (Number 9 0 999999999) vnd ≡ true) where
+    module _ (a : inForm (Number 1 0 0) (own .clu) ≡ true) (b : inForm (Hex 6) (own .kcv) ≡ true) (c : inForm Name (own .ksl) ≡ true) (d : inForm (Number 9 0 999999999) (own .vnd) ≡ true) where
       own-in-form : T (allRows (λ (x : Attribute). isOwn (presence x) x value) table)
       unfolding table storedValue
       own-in-form = rw (a, b, c, d) tt
@@ -172,35 +174,35 @@ module _ (s : List ℕ) (h : isIncoming s ≡ true) where
       all-in-form = all-rows (isInForm value) table (λ k x r e. row-in-form own-in-form k x r e (presence x) refl)
 
       -- the stored card fits its row,
-      pub stored-longest : length (storedCard s clu kcv ksl vnd) ≤ 202
+      pub stored-longest : length (storedCard s own) ≤ 202
       unfolding storedCard
       stored-longest = is-short value all-in-form
 
-      pub stored-short : length (storedCard s clu kcv ksl vnd) ≤ 256
+      pub stored-short : length (storedCard s own) ≤ 256
       stored-short = omega (arith, stored-longest)
 
       -- passes the test of a card as stored,
-      pub stored-passes : isStored (inRow (storedCard s clu kcv ksl vnd)) ≡ true
+      pub stored-passes : isStored (inRow (storedCard s own)) ≡ true
       unfolding storedCard
       stored-passes = is-stored value all-in-form
 
       -- is text, so that a PTVD string can hold it,
-      pub stored-text : areAll Text (storedCard s clu kcv ksl vnd) ≡ true
+      pub stored-text : areAll Text (storedCard s own) ≡ true
       unfolding storedCard
       stored-text = is-text value all-in-form
 
       -- stands in its row up to the first zero,
-      pub stored-measured : take (run (isNot 0) (inRow (storedCard s clu kcv ksl vnd))) (inRow (storedCard s clu kcv ksl vnd)) ≡ storedCard s clu kcv ksl vnd
+      pub stored-measured : take (run (isNot 0) (inRow (storedCard s own))) (inRow (storedCard s own)) ≡ storedCard s own
       unfolding storedCard
       stored-measured = is-measured value all-in-form
 
       -- and each name reads back its value, in the row and in the card alone
       module _ (k : ℕ) (x : Attribute) (r : List Attribute) (e : drop k table ≡ x ∷ r) where
-        pub stored-back : valueOf (name x) (inRow (storedCard s clu kcv ksl vnd)) ≡ some (value (name x))
+        pub stored-back : valueOf (name x) (inRow (storedCard s own)) ≡ some (value (name x))
         unfolding storedCard
         stored-back = reads-row value all-in-form k x r e
 
-        pub card-back : valueOf (name x) (storedCard s clu kcv ksl vnd) ≡ some (value (name x))
+        pub card-back : valueOf (name x) (storedCard s own) ≡ some (value (name x))
         unfolding storedCard
         card-back = reads-card value all-in-form k x r e
 
@@ -208,42 +210,42 @@ module _ (s : List ℕ) (h : isIncoming s ≡ true) where
         module _ (q : presence x ≡ Required) where
           kept : some (value (name x)) ≡ valueOf (name x) s
           kept =
-              ap some (from-card s clu kcv ksl vnd (name x) (rw q at (at-row (λ (y : Attribute). isIncomings (presence y) (name y)) table all-incomings k x r e)))
+              ap some (from-card s own (name x) (rw q at (at-row (λ (y : Attribute). isIncomings (presence y) (name y)) table all-incomings k x r e)))
               ∙ sym (required-own k x r e q)
 
-          pub required-back : valueOf (name x) (inRow (storedCard s clu kcv ksl vnd)) ≡ valueOf (name x) s
+          pub required-back : valueOf (name x) (inRow (storedCard s own)) ≡ valueOf (name x) s
           required-back = stored-back ∙ kept
 
-          pub required-card-back : valueOf (name x) (storedCard s clu kcv ksl vnd) ≡ valueOf (name x) s
+          pub required-card-back : valueOf (name x) (storedCard s own) ≡ valueOf (name x) s
           required-card-back = card-back ∙ kept
 
       -- SGC, KRN and KSL
-      pub sgc-back : valueOf SGC (inRow (storedCard s clu kcv ksl vnd)) ≡ valueOf SGC s
+      pub sgc-back : valueOf SGC (inRow (storedCard s own)) ≡ valueOf SGC s
       unfolding table
       sgc-back = required-back 12 (SGC, Required, Digits 10) _ refl refl
 
-      pub krn-back : valueOf KRN (inRow (storedCard s clu kcv ksl vnd)) ≡ valueOf KRN s
+      pub krn-back : valueOf KRN (inRow (storedCard s own)) ≡ valueOf KRN s
       unfolding table
       krn-back = required-back 8 (KRN, Required, Number 1 1 9) _ refl refl
 
-      pub ksl-back : valueOf KSL (inRow (storedCard s clu kcv ksl vnd)) ≡ some ksl
+      pub ksl-back : valueOf KSL (inRow (storedCard s own)) ≡ some (own .ksl)
       unfolding table storedValue
       ksl-back = stored-back 9 (KSL, Engine, Name) _ refl
 
-      pub sgc-card-back : valueOf SGC (storedCard s clu kcv ksl vnd) ≡ valueOf SGC s
+      pub sgc-card-back : valueOf SGC (storedCard s own) ≡ valueOf SGC s
       unfolding table
       sgc-card-back = required-card-back 12 (SGC, Required, Digits 10) _ refl refl
 
-      pub krn-card-back : valueOf KRN (storedCard s clu kcv ksl vnd) ≡ valueOf KRN s
+      pub krn-card-back : valueOf KRN (storedCard s own) ≡ valueOf KRN s
       unfolding table
       krn-card-back = required-card-back 8 (KRN, Required, Number 1 1 9) _ refl refl
 
-      pub ksl-card-back : valueOf KSL (storedCard s clu kcv ksl vnd) ≡ some ksl
+      pub ksl-card-back : valueOf KSL (storedCard s own) ≡ some (own .ksl)
       unfolding table storedValue
       ksl-card-back = card-back 9 (KSL, Engine, Name) _ refl
 
       -- with a VND of one digit, as a load writes it, the card has at most 194 bytes
-      module _ (l : length vnd ≤ 1) where
+      module _ (l : length (own .vnd) ≤ 1) where
         abbrev longest : Attribute → ℕ
         longest x = cond (eqb (name x) VND) 1 (most (form x))
 
@@ -252,7 +254,7 @@ module _ (s : List ℕ) (h : isIncoming s ≡ true) where
         value-within k x r e true q = rw (eqb-true (name x) VND q) l
         value-within k x r e false q = value-short value all-in-form k x r e
 
-        pub loaded-longest : length (storedCard s clu kcv ksl vnd) ≤ 194
+        pub loaded-longest : length (storedCard s own) ≤ 194
         unfolding storedCard table
         loaded-longest =
             let w : T (allRows (isWithin value longest) table) = all-rows (isWithin value longest) table (λ k x r e. le→leb (length (value (name x))) (longest x) (value-within k x r e (eqb (name x) VND) refl)) in

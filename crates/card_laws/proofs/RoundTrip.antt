@@ -21,7 +21,8 @@ use Rattle.forms.specs.Forms.{inForm}
 use Rattle.forms.proofs.FormBounds.{in-form-plain, semicolon, in-form-text, isBounded, most, in-form-short}
 use Rattle.cards.specs.Entries.{nameOf, valueIn, valueOf, nameBytes, entryBytes}
 use Rattle.attributes.specs.Table.{table, name, form}
-use Rattle.stored_cards.specs.Stored.{cardBytes, inRow, isEntryOf, isStoredFrom, isStored}
+use Rattle.stored_cards.specs.Stored.{cardBytes, inRow, isEntryOf, isStored}
+use Rattle.stored_cards.proofs.Sequence.{isStoredFrom, first-cut, stored-by-entries}
 use Rattle.attributes.specs.declared.Attribute.{Attribute}
 use Rattle.cards.proofs.EntryLaws.{a-name, entry-length}
 use Rattle.attributes.proofs.TableLaws.{allRows, at-row, all-rows, name-some}
@@ -128,10 +129,7 @@ module _ (f : ℕ → List ℕ) where
   stores (a ∷ rs) m w i =
       let w1 = and-left (isWritten a) (allRows isWritten rs) w in
       let i1 = and-left (isInForm a) (allRows isInForm rs) i in
-      let u = cardBytes rs f ++ replicate m 0 in
-      let n : run (isNot 59) (entry a ++ (59 ∷ u)) ≡ length (entry a) = all-run (isNot 59) (entry a) (59 ∷ u) (entry-plain a w1 i1) ∙ omega arith in
-      let l : ltb (length (entry a)) (length (entry a ++ (59 ∷ u))) ≡ true = lt-ltb (length (entry a)) (length (entry a ++ (59 ∷ u))) (omega (arith, length-append (entry a) (59 ∷ u))) in
-      rw (card-cons, n, l, take-at (entry a) (59 ∷ u) (length (entry a)) refl, is-entry a w1 i1, drop-append-add (entry a) (59 ∷ u) 1)
+      rw (card-cons, first-cut a rs (entry a) (cardBytes rs f ++ replicate m 0) (entry-plain a w1 i1), is-entry a w1 i1)
       (stores rs m (and-right (isWritten a) (allRows isWritten rs) w) (and-right (isInForm a) (allRows isInForm rs) i))
 
   -- the card is text, where what stands after it is
@@ -172,10 +170,10 @@ module _ (f : ℕ → List ℕ) where
 
     -- passes the test of a card as stored,
     pub is-stored : isStored (inRow (cardBytes table f)) ≡ true
-    unfolding isStored inRow
+    unfolding inRow
     is-stored =
         let n : length (cardBytes table f ++ replicate (256 - length (cardBytes table f)) 0) ≡ 256 = length-append (cardBytes table f) (replicate (256 - length (cardBytes table f)) 0) ∙ rw length-replicate (omega (arith, is-short)) in
-        rw n (stores table (256 - length (cardBytes table f)) all-written i)
+        rw (stored-by-entries, n) (stores table (256 - length (cardBytes table f)) all-written i)
 
     -- is text,
     pub is-text : areAll Text (cardBytes table f) ≡ true

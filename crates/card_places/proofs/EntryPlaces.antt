@@ -21,9 +21,8 @@ use Rattle.forms.specs.Forms.{isAlgorithm, inForm}
 use Rattle.forms.specs.declared.Form.{Form}
 use Rattle.forms.specs.declared.Form.the-variants.{Timestamp, Algorithm, Number, Digits, Hex, HexSome, Name, Empty}
 use Rattle.forms.proofs.FormBounds.{in-form-plain, semicolon}
-use Rattle.cards.specs.Entries.{nameOf}
-use Rattle.cards.proofs.EntryLaws.{name-length}
-use Rattle.stored_cards.specs.Stored.{entryLength}
+use Rattle.cards.specs.Entries.{entryLength, nameOf}
+use Rattle.cards.proofs.EntryLaws.{name-length, name-capitals}
 use Rattle.card_places.specs.Places.{startsWith, isLong}
 
 -- the length of a value in such a form
@@ -57,20 +56,15 @@ name-front t k h =
     rw (getD-take k t 0 0 (omega arith), getD-take k t 1 0 (omega arith), getD-take k t 2 0 (omega arith), getD-take 3 t 0 0 (omega arith), getD-take 3 t 1 0 (omega arith), getD-take 3 t 2 0 (omega arith))
 
 -- and has no semicolon
-some-if : (t : Bool) (n : ℕ) → 0 < cond t n 0 → t ≡ true
-some-if true n h = refl
-some-if false n h = absurd (omega arith)
-
 name-plain : (t : List ℕ) → 0 < nameOf (take 3 t) → allOf (isNot 59) (take 3 t) ≡ true
-unfolding nameOf areAll
-name-plain [] h = refl
-name-plain (a ∷ []) h = absurd (omega (arith, name-length (a ∷ []) h))
-name-plain (a ∷ b ∷ []) h = absurd (omega (arith, name-length (a ∷ b ∷ []) h))
-name-plain (a ∷ b ∷ c ∷ v) h =
-    let t = some-if (isOf Capital a && (isOf Capital b && isOf Capital c)) (a * 65536 + b * 256 + c) h in
-    let u = and-second (isOf Capital a) (isOf Capital b && isOf Capital c) t in
-    class-plain Capital 59 (a ∷ b ∷ c ∷ []) refl
-    (rw (and-first (isOf Capital a) (isOf Capital b && isOf Capital c) t, and-first (isOf Capital b) (isOf Capital c) u, and-second (isOf Capital b) (isOf Capital c) u))
+unfolding areAll
+name-plain t h = class-plain Capital 59 (take 3 t) refl (rw (← take-three t) (name-capitals (take 3 t) h))
+  where
+    take-three : (l : List ℕ) → take 3 (take 3 l) ≡ take 3 l
+    take-three [] = refl
+    take-three (a ∷ []) = refl
+    take-three (a ∷ b ∷ []) = refl
+    take-three (a ∷ b ∷ c ∷ v) = refl
 
 -- where a run of other bytes ends within the list, the delimiter stands
 pub run-at : (d : ℕ) (t : List ℕ) → run (isNot d) t < length t → getD t (run (isNot d) t) 0 ≡ d

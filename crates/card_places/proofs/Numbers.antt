@@ -17,8 +17,8 @@ use Rattle.text.specs.declared.Class.the-variants.{Digit}
 use Rattle.decimals.specs.Decimals.{decimal, isUnpadded, isNumber}
 use Rattle.decimals.proofs.NumberLaws.{number-short, number-digits}
 use Rattle.forms.specs.declared.Form.the-variants.{Number}
-use Rattle.cards.specs.Entries.{nameOf}
-use Rattle.stored_cards.specs.Stored.{entryLength}
+use Rattle.cards.specs.Entries.{entryLength, nameOf}
+use Rattle.stored_cards.proofs.Runs.{run-all}
 use Rattle.card_places.specs.Places.{startsWith, after}
 use Rattle.card_places.proofs.EntryPlaces.{Framed, starts-three, starts-framed, behind, framed-long, framed-entry}
 use Rattle.card_places.proofs.Stands.{stands, stands-not}
@@ -49,15 +49,7 @@ module _ (digits high : ℕ) (v : List ℕ) (l : 1 ≤ length v) (k : length v �
   unfolding isNumber
   in-range o x e = sym (rw (le-leb 1 (length v) l, le-leb (length v) digits k, a, unpadded, o, ← e, le-leb 0 x (omega arith)))
 
--- every byte of a run passes; and a run is found in the front where it ends there
-run-all : (f : ℕ → Bool) (u : List ℕ) → allOf f (take (run f u) u) ≡ true
-run-all f [] = refl
-run-all f (b ∷ u) = go (f b) refl (run-all f u)
-  where
-    go : (t : Bool) → f b ≡ t → allOf f (take (run f u) u) ≡ true → allOf f (take (cond t (suc (run f u)) 0) (b ∷ u)) ≡ true
-    go true e more = rw e more
-    go false e more = refl
-
+-- a run is found in the front where it ends there
 run-front : (f : ℕ → Bool) (u : List ℕ) (m : ℕ) → run f u < m → run f (take m u) ≡ run f u
 run-front f u zero h = absurd (omega arith)
 run-front f [] (suc m) h = refl

@@ -11,8 +11,7 @@ use borrow.Author.Tests.{eqb-true}
 use Rattle.octets.proofs.Flags.{nope, and-first, and-second, and-both, both-ways}
 use Rattle.forms.specs.Forms.{inForm}
 use Rattle.forms.specs.declared.Form.{Form}
-use Rattle.cards.specs.Entries.{nameBytes}
-use Rattle.stored_cards.specs.Stored.{entryLength}
+use Rattle.cards.specs.Entries.{entryLength, nameBytes}
 use Rattle.patterns.specs.Patterns.{fitsByte, fits}
 use Rattle.patterns.proofs.PatternLaws.{fits-itself, fits-front, fits-append, fits-length}
 use Rattle.card_places.specs.Places.{startsWith, after, isLong}

@@ -15,11 +15,12 @@ use Rattle.text.specs.Classes.{areAll}
 use Rattle.text.specs.declared.Class.the-variants.{Zero}
 use Rattle.forms.specs.Forms.{inForm}
 use Rattle.forms.specs.declared.Form.{Form}
-use Rattle.cards.specs.Entries.{nameOf}
+use Rattle.cards.specs.Entries.{entryLength, nameOf}
 use Rattle.cards.proofs.EntryLaws.{name-room, value-here}
 use Rattle.attributes.specs.Table.{table, name, form}
 use Rattle.attributes.specs.declared.Attribute.{Attribute}
-use Rattle.stored_cards.specs.Stored.{entryLength, isEntryOf, isStoredFrom, isStored}
+use Rattle.stored_cards.specs.Stored.{isEntryOf, isStored}
+use Rattle.stored_cards.proofs.Sequence.{isStoredFrom, stored-by-entries}
 use Rattle.card_places.specs.Places.{startsWith, after, afterAll, isClear}
 use Rattle.card_places.proofs.EntryPlaces.{starts-short}
 
@@ -130,5 +131,5 @@ module _ (s : List ℕ) where
           first-not a rs s at e ∙ sym (rw (x, all-past rs, lt-leb (length s + 1) (length s) (omega arith)))
 
   pub stored-after : (e : ℕ) → e ≡ afterAll table s 0 → (r : Bool) → r ≡ isClear s e → r ≡ isStored s
-  unfolding isStored isClear
-  stored-after e p r q = rw (stored-from table 0 (omega arith), ← p) q
+  unfolding isClear
+  stored-after e p r q = rw (stored-by-entries, stored-from table 0 (omega arith), ← p) q

@@ -15,13 +15,14 @@ use Rattle.pieces.specs.Pieces.{pieces}
 use Rattle.pieces.proofs.PieceLaws.{pieces-first}
 use Rattle.forms.specs.declared.Form.{Form}
 use Rattle.forms.specs.declared.Form.the-variants.{Number, Digits, Name}
-use Rattle.cards.specs.Entries.{valueIn, valueOf, orElse}
+use Rattle.cards.specs.Entries.{entryLength, valueIn, valueOf, orElse}
 use Rattle.cards.proofs.EntryLaws.{a-name}
 use Rattle.attributes.specs.Table.{KRN, KSL, SGC, table, name, form}
 use Rattle.attributes.specs.declared.Attribute.{Attribute}
 use Rattle.attributes.specs.declared.Presence.the-variants.{Required, Engine}
 use Rattle.attributes.proofs.TableLaws.{allRows}
-use Rattle.stored_cards.specs.Stored.{entryLength, isStoredFrom, isStored}
+use Rattle.stored_cards.specs.Stored.{isStored}
+use Rattle.stored_cards.proofs.Sequence.{isStoredFrom, stored-walk}
 use Rattle.card_places.specs.Places.{startsWith, after, afterAll, isLong}
 use Rattle.card_places.proofs.EntryPlaces.{starts-short, starts-named, starts-three, entry-long}
 use Rattle.card_places.proofs.Stands.{stands, stands-within, first-entry, first-stands}
@@ -86,8 +87,7 @@ module _ (n : ℕ) (h : 0 < n) (f : Form) (s : List ℕ) (at : ℕ) (w : Stands 
 module _ (ps : List Attribute) (a : Attribute) (qs : List Attribute) (t : table ≡ ps ++ (a ∷ qs)) (d : T (allRows (isOther a) ps)) (h : 0 < name a)
     (s : List ℕ) (o : isStored s ≡ true) (at : ℕ) (p : at ≡ afterAll ps s 0) where
   all-stored : isStoredFrom (ps ++ (a ∷ qs)) s ≡ true
-  unfolding isStored
-  all-stored = rw (← t) (and-second (eqb (length s) 256) (isStoredFrom table s) o)
+  all-stored = rw (← t) (stored-walk s o)
 
   its-entry : Stands (name a) (form a) s at
   its-entry = rw p (stands-at a qs s ps 0 (omega arith) all-stored)

@@ -1,24 +1,29 @@
--- Where the entries of a stored card stand, which are those of the table in its sequence (document 01, Cards). Places are counted from 0.
+-- Where the entries of a stored card stand, which are those of the table in its sequence (document 01, Cards). Places
+-- are counted from 0.
 use Prim.Native.Nat.{ℕ, _+_}
 use mathlib.Core.Bool.{Bool, cond, _&&_, false}
 use mathlib.Core.List.{List, [], _∷_}
 use lib.Dec.{eqb, leb, ltb}
 use lib.ListN.{length, take, drop}
+use Rattle.octets.specs.Texts.{all}
 use Rattle.text.specs.Classes.{areAll}
 use Rattle.text.specs.declared.Class.the-variants.{Zero}
 use Rattle.forms.specs.Forms.{inForm}
 use Rattle.forms.specs.declared.Form.{Form}
 use Rattle.forms.specs.declared.Form.the-variants.{Timestamp, Algorithm, Number, Digits, Hex, HexSome, Name, Empty}
-use Rattle.cards.specs.Entries.{nameOf}
+use Rattle.cards.specs.Entries.{entryLength, nameOf}
 use Rattle.attributes.specs.Table.{name, form}
 use Rattle.attributes.specs.declared.Attribute.{Attribute}
-use Rattle.stored_cards.specs.Stored.{entryLength}
 use Rattle.patterns.specs.Patterns.{fits}
 
 -- s starts with an entry of the name, its value in form
 unfoldable pub startsWith : ℕ → Form → List ℕ → Bool
 startsWith n f s =
-    ltb (entryLength s) (length s) && (eqb (nameOf (take (entryLength s) s)) n && inForm f (drop 3 (take (entryLength s) s)))
+    all (
+    ltb (entryLength s) (length s)
+    ∷ eqb (nameOf (take (entryLength s) s)) n
+    ∷ inForm f (drop 3 (take (entryLength s) s))
+    ∷ [])
 
 -- the place after such an entry that stands at a place; beyond the end, where nothing stands, if there is none
 unfoldable pub after : ℕ → Form → List ℕ → ℕ → ℕ
@@ -46,4 +51,9 @@ afterFitting p s at = cond (fits p (drop at s)) (at + length p) (length s + 1)
 
 -- s is 256 bytes, and from a place within them on only zeros stand
 unfoldable pub isClear : List ℕ → ℕ → Bool
-isClear s at = eqb (length s) 256 && (leb at (length s) && areAll Zero (drop at s))
+isClear s at =
+    all (
+    eqb (length s) 256
+    ∷ leb at (length s)
+    ∷ areAll Zero (drop at s)
+    ∷ [])

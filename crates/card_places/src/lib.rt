@@ -1,6 +1,6 @@
-// A card as stored, read once: whether it is one, and where the values stand that question 3 compares (document 01, Cards and question 3).
-// Most values have one length, so that most bytes stand at known places and are compared with a pattern: a digit for itself and the smaller ones, F for every
-// hexadecimal digit, any other byte for itself.
+// A card as stored, read once: whether it is one, and where the values stand that question 3 compares (document 01,
+// Cards and question 3). Most values have one length, so that most bytes stand at known places and are compared with a
+// pattern: a digit for itself and the smaller ones, F for every hexadecimal digit, any other byte for itself.
 use attributes::KEN;
 use attributes::KSL;
 use attributes::ULM;
@@ -46,7 +46,7 @@ fn after_revision(s: &[u8], at: usize) -> usize
     if s.len() < end {
         return s.len() + 1;
     }
-    if s[at + 3] < 49 {
+    if s[at + 3] < b'1' {
         return s.len() + 1;
     }
     end
@@ -61,7 +61,7 @@ fn after_any(s: &[u8], at: usize, name: u32, form: Form) -> usize
     if s.len() < at {
         return s.len() + 1;
     }
-    let end = pieces::piece_end(s, at, 59);
+    let end = pieces::piece_end(s, at, b';');
     if s.len() <= end {
         return s.len() + 1;
     }
@@ -108,7 +108,7 @@ fn is_number(v: &[u8], digits: usize, high: u64) -> bool
     if digits < v.len() {
         return false;
     }
-    if (v.len() != 1) & (v[0] == 48) {
+    if (v.len() != 1) & (v[0] == b'0') {
         return false;
     }
     decimals::decimal(v) <= high
@@ -133,7 +133,7 @@ fn after_number(s: &[u8], at: usize, name: u32, digits: usize, high: u64) -> usi
     if s.len() <= end {
         return s.len() + 1;
     }
-    if s[end] != 59 {
+    if s[end] != b';' {
         return s.len() + 1;
     }
     if !is_number(&s[start..end], digits, high) {
@@ -142,8 +142,8 @@ fn after_number(s: &[u8], at: usize, name: u32, digits: usize, high: u64) -> usi
     end + 1
 }
 
-// The place of KEN's entry, the eighth; beyond the end, where the seven before it or its name do not stand. The name is compared with them, since that makes
-// 96 bytes, six times the sixteen that are compared at a time.
+// The place of KEN's entry, the eighth; beyond the end, where the seven before it or its name do not stand. The name is
+// compared with them, since that makes 96 bytes, six times the sixteen that are compared at a time.
 fn after_first(s: &[u8]) -> usize
     ensures { λ r. ⌜ after KEN (Number 3 0 255) (now (s .entry)) r ≡ afterAll (take 8 table) (now (s .entry)) 0 ⌝ }
     ensures within { λ r. ⌜ r ≤ length (now (s .entry)) + 1 ⌝ }
@@ -195,23 +195,23 @@ pub struct Places {
     pub sgc: usize,
 }
 
-// The places in s, which is to be 256 bytes.
-pub fn find_places(s: &[u8]) -> Places
-    ensures { λ p. ⌜ p .stored ≡ isStored (now (s .entry)) ⌝ }
-    ensures krn { λ p. ⌜ p .krn ≡ afterAll (take 8 table) (now (s .entry)) 0 ⌝ }
-    ensures ksl { λ p. ⌜ p .ksl ≡ afterAll (take 9 table) (now (s .entry)) 0 ⌝ }
-    ensures ktc { λ p. ⌜ p .ktc ≡ afterAll (take 10 table) (now (s .entry)) 0 ⌝ }
-    ensures sgc { λ p. ⌜ p .sgc ≡ afterAll (take 12 table) (now (s .entry)) 0 ⌝ }
+// The places in a card, which is to be 256 bytes.
+pub fn find_places(card: &[u8]) -> Places
+    ensures { λ p. ⌜ p .stored ≡ isStored (now (card .entry)) ⌝ }
+    ensures krn { λ p. ⌜ p .krn ≡ afterAll (take 8 table) (now (card .entry)) 0 ⌝ }
+    ensures ksl { λ p. ⌜ p .ksl ≡ afterAll (take 9 table) (now (card .entry)) 0 ⌝ }
+    ensures ktc { λ p. ⌜ p .ktc ≡ afterAll (take 10 table) (now (card .entry)) 0 ⌝ }
+    ensures sgc { λ p. ⌜ p .sgc ≡ afterAll (take 12 table) (now (card .entry)) 0 ⌝ }
 {
-    let ken = after_first(s);
-    let krn = after_number(s, ken, KEN, 3, 255);
-    let ksl = after_revision(s, krn);
-    let ktc = after_any(s, ksl, KSL, Form::Name);
-    let sgc = after_fitting(s, ktc, b"KTC3;SBMFFFF;");
-    let ulm = after_fitting(s, sgc, b"SGC9999999999;");
-    let vnd = after_number(s, ulm, ULM, 9, 999999999);
-    let end = after_number(s, vnd, VND, 9, 999999999);
-    let stored = is_clear(s, end);
+    let ken = after_first(card);
+    let krn = after_number(card, ken, KEN, 3, 255);
+    let ksl = after_revision(card, krn);
+    let ktc = after_any(card, ksl, KSL, Form::Name);
+    let sgc = after_fitting(card, ktc, b"KTC3;SBMFFFF;");
+    let ulm = after_fitting(card, sgc, b"SGC9999999999;");
+    let vnd = after_number(card, ulm, ULM, 9, 999999999);
+    let end = after_number(card, vnd, VND, 9, 999999999);
+    let stored = is_clear(card, end);
     Places {
         stored,
         krn,

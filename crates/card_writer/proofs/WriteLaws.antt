@@ -10,7 +10,7 @@ use Rattle.octets.specs.Wrote.{Wrote}
 use Rattle.octets.proofs.Writes.{then, from-start, sets-append}
 use Rattle.cards.specs.Entries.{nameBytes, entryBytes, valueOr}
 use Rattle.attributes.specs.Table.{CLU, KCV, KSL, VND, table, rows, name}
-use Rattle.stored_cards.specs.Stored.{inRow, cardBytes, storedValue, defaultCard}
+use Rattle.stored_cards.specs.Stored.{EngineValues, inRow, cardBytes, storedValue, defaultCard}
 use Rattle.attributes.specs.declared.Attribute.{Attribute}
 use Rattle.card_writer.proofs.ListLaws.{drop-replicate}
 use Rattle.attributes.proofs.TableLaws.{table-end}
@@ -23,24 +23,27 @@ entry-written n p q s = then p (then q s)
 
 -- stored_value
 module _ (card clu kcv ksl vnd : List ℕ) (n : ℕ) where
-  pub value-clu : n ≡ CLU → clu ≡ storedValue card clu kcv ksl vnd n
+  abbrev own : EngineValues
+  own = record { clu = clu; kcv = kcv; ksl = ksl; vnd = vnd }
+
+  pub value-clu : n ≡ CLU → clu ≡ storedValue card own n
   unfolding storedValue
   value-clu e = rw e
 
-  pub value-kcv : n ≡ KCV → kcv ≡ storedValue card clu kcv ksl vnd n
+  pub value-kcv : n ≡ KCV → kcv ≡ storedValue card own n
   unfolding storedValue
   value-kcv e = rw e
 
-  pub value-ksl : n ≡ KSL → ksl ≡ storedValue card clu kcv ksl vnd n
+  pub value-ksl : n ≡ KSL → ksl ≡ storedValue card own n
   unfolding storedValue
   value-ksl e = rw e
 
-  pub value-vnd : n ≡ VND → vnd ≡ storedValue card clu kcv ksl vnd n
+  pub value-vnd : n ≡ VND → vnd ≡ storedValue card own n
   unfolding storedValue
   value-vnd e = rw e
 
   module _ (a : n ≡ CLU → ⊥) (b : n ≡ KCV → ⊥) (c : n ≡ KSL → ⊥) (d : n ≡ VND → ⊥) where
-    pub value-card : (other v : List ℕ) → other ≡ defaultCard → v ≡ valueOr n card other → v ≡ storedValue card clu kcv ksl vnd n
+    pub value-card : (other v : List ℕ) → other ≡ defaultCard → v ≡ valueOr n card other → v ≡ storedValue card own n
     unfolding storedValue
     value-card other v o p = rw (ne-eqb n CLU a, ne-eqb n KCV b, ne-eqb n KSL c, ne-eqb n VND d, p, o)
 

@@ -23,7 +23,7 @@ fn put_entry(dst: &mut [u8], at: usize, name: u32, v: &[u8]) -> usize
     ];
     let a = octets::put(dst, at, &n);
     let b = octets::put(dst, a, v);
-    octets::put_byte(dst, b, 59)
+    octets::put_byte(dst, b, b';')
 }
 
 // The value that is stored under a name: the engine's own, else the incoming card's, else the default card's.
@@ -37,7 +37,14 @@ fn stored_value<'a>(
     vnd: &'a [u8],
 ) -> &'a [u8]
     requires { ⌜ now default ≡ defaultCard ⌝ }
-    ensures { λ r. ⌜ now r ≡ storedValue (now (card .entry)) (now (clu .entry)) (now (kcv .entry)) (now (ksl .entry)) (now (vnd .entry)) name ⌝ }
+    ensures { λ r. ⌜ now r ≡ storedValue (now (card .entry))
+        (record {
+          clu = now (clu .entry);
+          kcv = now (kcv .entry);
+          ksl = now (ksl .entry);
+          vnd = now (vnd .entry);
+        })
+        name ⌝ }
 {
     if name == CLU {
         return clu;
@@ -63,8 +70,16 @@ fn put_card<'a>(
     ksl: &'a [u8],
     vnd: &'a [u8],
 ) -> usize
-    requires { ⌜ length (storedCard (now card) (now clu) (now kcv) (now ksl) (now vnd)) ≤ length (now dst) ⌝ }
-    ensures { λ r. ⌜ Wrote (now (dst .entry)) 0 (storedCard (now (card .entry)) (now (clu .entry)) (now (kcv .entry)) (now (ksl .entry)) (now (vnd .entry))) (now (dst .exit)) r ⌝ }
+    requires { ⌜ length (storedCard (now card) (record { clu = now clu; kcv = now kcv; ksl = now ksl; vnd = now vnd }))
+        ≤ length (now dst) ⌝ }
+    ensures { λ r. ⌜ Wrote (now (dst .entry)) 0 (storedCard (now (card .entry))
+        (record {
+          clu = now (clu .entry);
+          kcv = now (kcv .entry);
+          ksl = now (ksl .entry);
+          vnd = now (vnd .entry);
+        }))
+        (now (dst .exit)) r ⌝ }
 {
     let default = b"CLMFFFFFFFF;IUT20380119T031407Z;SBMFFFF;ULM999999999;";
     let mut at = 0;
@@ -93,9 +108,22 @@ pub fn write_card<'a>(
     ksl: &'a [u8],
     vnd: &'a [u8],
 ) -> Stored
-    requires { ⌜ length (storedCard (now card) (now clu) (now kcv) (now ksl) (now vnd)) ≤ 256 ⌝ }
-    ensures { λ r. ⌜ r .card ≡ inRow (storedCard (now (card .entry)) (now (clu .entry)) (now (kcv .entry)) (now (ksl .entry)) (now (vnd .entry))) ⌝ }
-    ensures measured { λ r. ⌜ r .length ≡ length (storedCard (now (card .entry)) (now (clu .entry)) (now (kcv .entry)) (now (ksl .entry)) (now (vnd .entry))) ⌝ }
+    requires { ⌜ length (storedCard (now card) (record { clu = now clu; kcv = now kcv; ksl = now ksl; vnd = now vnd }))
+        ≤ 256 ⌝ }
+    ensures { λ r. ⌜ r .card ≡ inRow (storedCard (now (card .entry))
+        (record {
+          clu = now (clu .entry);
+          kcv = now (kcv .entry);
+          ksl = now (ksl .entry);
+          vnd = now (vnd .entry);
+        })) ⌝ }
+    ensures measured { λ r. ⌜ r .length ≡ length (storedCard (now (card .entry))
+        (record {
+          clu = now (clu .entry);
+          kcv = now (kcv .entry);
+          ksl = now (ksl .entry);
+          vnd = now (vnd .entry);
+        })) ⌝ }
 {
     let mut out = [0u8; 256];
     let n = put_card(&mut out, card, clu, kcv, ksl, vnd);

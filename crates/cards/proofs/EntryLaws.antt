@@ -1,21 +1,24 @@
 -- The cases of names and of the search for one, each with what the code knows where it answers as premises.
-use mathlib.Core.Path.{_≡_, sym, ap, _∙_}
-use mathlib.Core.Bool.{Bool, true, false, not, and-false}
+use mathlib.Core.Path.{_≡_, refl, sym, ap, _∙_}
+use mathlib.Core.Bool.{Bool, true, false, cond, not, _&&_, and-false, and-true}
 use mathlib.Core.List.{List, [], _∷_}
 use mathlib.Core.Option.{Option, none, some}
 use Prim.Native.Nat.{ℕ, _+_, _-_, _*_, _≤_, _<_}
 use native.Mathlib.Omega.{arith}
+use lib.Dec.{leb}
 use lib.ListN.{length, getD, take, drop, length-append, length-drop, drop-of-length-le, List·getD-eq-default}
 use lib.Seq.{drop-drop, length-take-le}
-use borrow.Author.Tests.{eq-eqb, ne-eqb, not-true, not-false}
-use Rattle.octets.specs.Strings.{run, isNot}
+use borrow.Author.Tests.{eq-eqb, ne-eqb, leb-true, not-true, not-false}
+use Rattle.octets.specs.Strings.{run, isNot, allOf}
 use Rattle.pieces.specs.Pieces.{pieces}
 use Rattle.pieces.proofs.PieceLaws.{no-piece, next-piece}
 use Rattle.text.specs.Classes.{isOf}
 use Rattle.text.specs.declared.Class.the-variants.{Capital}
-use Rattle.cards.specs.Entries.{nameOf, valueIn, valueOf, between, Within, orElse, valueOr, entryBytes}
+use Rattle.attributes.specs.Table.{nameNumber}
+use Rattle.cards.specs.Entries.{isNamed, nameOf, valueIn, valueOf, between, Within, orElse, valueOr, entryBytes}
 use Rattle.cards.specs.declared.Found.{Found}
 use Rattle.cards.specs.declared.Found.the-variants.{At, Nothing}
+use Rattle.octets.proofs.Flags.{and-first}
 use Rattle.octets.proofs.StringLaws.{drop-take}
 
 -- name_of
@@ -49,6 +52,28 @@ name-length [] h = absurd (omega (arith, too-short [] (omega arith)))
 name-length (a ∷ []) h = absurd (omega (arith, too-short (a ∷ []) (omega arith)))
 name-length (a ∷ b ∷ []) h = absurd (omega (arith, too-short (a ∷ b ∷ []) (omega arith)))
 name-length (a ∷ b ∷ c ∷ v) h = omega arith
+
+-- a name is three capitals, and three capitals are a name
+pub some-named : (p : List ℕ) → 0 < nameOf p → isNamed p ≡ true
+unfolding nameOf
+some-named p h = go (isNamed p) h
+  where
+    go : (t : Bool) → 0 < cond t (nameNumber p) 0 → t ≡ true
+    go true l = refl
+    go false l = absurd (omega arith)
+
+pub named-some : (p : List ℕ) → isNamed p ≡ true → 0 < nameOf p
+unfolding nameOf
+named-some p e =
+    let a = and-first (isOf Capital (getD p 0 0)) (isOf Capital (getD p 1 0) && isOf Capital (getD p 2 0)) e in
+    let l : 65 ≤ getD p 0 0 = leb-true 65 (getD p 0 0) (and-first (leb 65 (getD p 0 0)) (leb (getD p 0 0) 90) a) in
+    rw e (omega arith)
+
+pub name-capitals : (p : List ℕ) → 0 < nameOf p → allOf (isOf Capital) (take 3 p) ≡ true
+name-capitals [] h = refl
+name-capitals (a ∷ []) h = absurd (omega (arith, name-length (a ∷ []) h))
+name-capitals (a ∷ b ∷ []) h = absurd (omega (arith, name-length (a ∷ b ∷ []) h))
+name-capitals (a ∷ b ∷ c ∷ v) h = rw and-true (some-named (a ∷ b ∷ c ∷ v) h)
 
 -- the value of the entry from `at` to e
 pub value-here : (s : List ℕ) (at e : ℕ) → drop 3 (take (e - at) (drop at s)) ≡ take (e - (at + 3)) (drop (at + 3) s)

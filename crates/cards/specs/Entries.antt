@@ -1,22 +1,44 @@
--- A card, a term of document 01 (Cards): entries, each a name of three capitals, a value and a semicolon. Its pieces at ; (59) are the entries.
-use Prim.Native.Nat.{ℕ, _+_, _*_, _-_, _/_, _%_, _≤_}
-use mathlib.Core.Bool.{cond, _&&_}
+-- A card, a term of document 01 (Cards): entries, each a name of three capitals, a value and a semicolon.
+use Prim.Native.Nat.{ℕ, _+_, _-_, _/_, _%_, _≤_}
+use Prim.Native.Char.{code}
+use mathlib.Core.Bool.{Bool, cond}
 use mathlib.Core.List.{List, [], _∷_, _++_}
 use mathlib.Core.Option.{Option, none, some}
 use lib.Dec.{eqb}
 use lib.ListN.{getD, take, drop}
+use Rattle.octets.specs.Strings.{run, isNot}
+use Rattle.octets.specs.Texts.{all}
 use Rattle.pieces.specs.Pieces.{pieces}
 use Rattle.text.specs.Classes.{isOf}
 use Rattle.text.specs.declared.Class.the-variants.{Capital}
+use Rattle.attributes.specs.Table.{nameNumber}
 use Rattle.cards.specs.declared.Found.{Found}
 use Rattle.cards.specs.declared.Found.the-variants.{At, Nothing}
 
--- the name of an entry as a number, its first letter highest; 0 where the entry has none
+-- what ends an entry
+abbrev pub semicolon : ℕ
+semicolon = code ";"
+
+-- the entries of a card, each without its semicolon
+abbrev pub entries : List ℕ → List (List ℕ)
+entries card = pieces semicolon card
+
+-- how long the first entry of a list is, without its semicolon
+abbrev pub entryLength : List ℕ → ℕ
+entryLength s = run (isNot semicolon) s
+
+-- an entry starts with a name of three capitals
+abbrev pub isNamed : List ℕ → Bool
+isNamed p =
+    all (
+    isOf Capital (getD p 0 0)
+    ∷ isOf Capital (getD p 1 0)
+    ∷ isOf Capital (getD p 2 0)
+    ∷ [])
+
+-- the name of an entry as a number; 0 where the entry has none
 unfoldable pub nameOf : List ℕ → ℕ
-nameOf p =
-    cond (isOf Capital (getD p 0 0) && (isOf Capital (getD p 1 0) && isOf Capital (getD p 2 0)))
-    (getD p 0 0 * 65536 + getD p 1 0 * 256 + getD p 2 0)
-    0
+nameOf p = cond (isNamed p) (nameNumber p) 0
 
 -- the value under a name among entries
 abbrev pub valueIn : ℕ → List (List ℕ) → Option (List ℕ)
@@ -25,7 +47,7 @@ valueIn n (p ∷ ps) = cond (eqb (nameOf p) n) (some (drop 3 p)) (valueIn n ps)
 
 -- the value under a name in a card; 0 is no name
 unfoldable pub valueOf : ℕ → List ℕ → Option (List ℕ)
-valueOf n card = cond (eqb n 0) none (valueIn n (pieces 59 card))
+valueOf n card = cond (eqb n 0) none (valueIn n (entries card))
 
 -- what stands between the bounds that a search found
 abbrev pub between : List ℕ → Found → Option (List ℕ)
@@ -51,4 +73,4 @@ abbrev pub nameBytes : ℕ → List ℕ
 nameBytes n = n / 65536 ∷ n / 256 % 256 ∷ n % 256 ∷ []
 
 unfoldable pub entryBytes : ℕ → List ℕ → List ℕ
-entryBytes n v = nameBytes n ++ (v ++ (59 ∷ []))
+entryBytes n v = nameBytes n ++ (v ++ (semicolon ∷ []))

@@ -1,4 +1,5 @@
-// Attribute cards: entries of a name, a value and a semicolon, searched by name (document 01, Cards; 001 Annex F; 003 Appendix B).
+// Attribute cards: entries of a name, a value and a semicolon, searched by name (document 01, Cards; 001 Annex F;
+// 003 Appendix B).
 use text::Class;
 ghost use mathlib.Core.Path.{_≡_};
 ghost use mathlib.Core.List.{[]};
@@ -20,22 +21,22 @@ fn wide(b: u8) -> u32
 }
 
 // The name of an entry, 0 where it has none.
-pub fn name_of(p: &[u8]) -> u32
-    ensures { λ r. ⌜ r ≡ nameOf (now (p .entry)) ⌝ }
+pub fn name_of(entry: &[u8]) -> u32
+    ensures { λ r. ⌜ r ≡ nameOf (now (entry .entry)) ⌝ }
 {
-    if p.len() < 3 {
+    if entry.len() < 3 {
         return 0;
     }
-    if !text::is_of(Class::Capital, p[0]) {
+    if !text::is_of(Class::Capital, entry[0]) {
         return 0;
     }
-    if !text::is_of(Class::Capital, p[1]) {
+    if !text::is_of(Class::Capital, entry[1]) {
         return 0;
     }
-    if !text::is_of(Class::Capital, p[2]) {
+    if !text::is_of(Class::Capital, entry[2]) {
         return 0;
     }
-    wide(p[0]) * 65536 + wide(p[1]) * 256 + wide(p[2])
+    wide(entry[0]) * 65536 + wide(entry[1]) * 256 + wide(entry[2])
 }
 
 // The value under a name; 0 is no name.
@@ -48,7 +49,7 @@ pub fn find(card: &[u8], name: u32) -> Found
     }
     let mut at = 0;
     while at < card.len() {
-        let e = pieces::piece_end(card, at, 59);
+        let e = pieces::piece_end(card, at, b';');
         if card.len() <= e {
             return Found::Nothing;
         }

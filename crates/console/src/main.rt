@@ -1,4 +1,5 @@
-// The console (docs/CONSOLE.md). What a line does and prints is `console_steps::step`; here lines are read and what they print is written.
+// The console (docs/CONSOLE.md). What a line does and prints is `console_steps::step`; here lines are read and what
+// they print is written.
 use console_input::Pending;
 use console_state::Console;
 use libc::STDIN_FILENO;
@@ -39,7 +40,7 @@ fn take_lines(s: Session, read: &[u8]) -> Session {
     let mut t = s;
     let mut at = 0;
     while at < read.len() {
-        let e = pieces::piece_end(read, at, 10);
+        let e = pieces::piece_end(read, at, b'\n');
         t = add(t, &read[at..e]);
         if e < read.len() {
             t = take_line(t);

@@ -1,14 +1,16 @@
 // The lines that the console answers with (docs/CONSOLE.md), over numbers.
-ghost use mathlib.Core.List.{[], _∷_, _++_};
+ghost use mathlib.Core.List.{_++_};
 ghost use Prim.Native.Nat.{_+_, _≤_};
 ghost use lib.ListN.{length};
+ghost use Rattle.octets.specs.Texts.{text};
 ghost use Rattle.octets.specs.Wrote.{Wrote};
 ghost use Rattle.console_answers.specs.Answers.{replyText, answerLine, usableLine, otherLine};
 
 // Writes a response without its carriage return, or - for none, and a line feed.
 fn put_reply(dst: &mut [u8], at: usize, response: &[u8]) -> usize
     requires { ⌜ at + length (now response) + 2 ≤ length (now dst) ⌝ }
-    ensures { λ r. ⌜ Wrote (now (dst .entry)) at (replyText (now (response .entry)) ++ (10 ∷ [])) (now (dst .exit)) r ⌝ }
+    ensures { λ r. ⌜ Wrote (now (dst .entry)) at (replyText (now (response .entry)) ++ text "\n")
+        (now (dst .exit)) r ⌝ }
     ensures short { λ r. ⌜ r ≤ at + length (now (response .entry)) + 2 ⌝ }
 {
     let n = response.len();
@@ -21,7 +23,8 @@ fn put_reply(dst: &mut [u8], at: usize, response: &[u8]) -> usize
 // The line that answers a request, by the outcome's number and that of the slot state left, or 255.
 pub fn put_answer(dst: &mut [u8], number: u64, outcome: u8, left: u8, response: &[u8]) -> usize
     requires { ⌜ length (now response) + 42 ≤ length (now dst) ⌝ }
-    ensures { λ r. ⌜ Wrote (now (dst .entry)) 0 (answerLine number outcome left (now (response .entry))) (now (dst .exit)) r ⌝ }
+    ensures { λ r. ⌜ Wrote (now (dst .entry)) 0 (answerLine number outcome left (now (response .entry)))
+        (now (dst .exit)) r ⌝ }
     ensures fits { λ r. ⌜ r ≤ length (now (dst .entry)) ⌝ }
 {
     let a = console_prints::put_long(dst, 0, number);

@@ -1,47 +1,54 @@
-// Whether what stands after the first word of a line of the console is in the form of that line (docs/CONSOLE.md), of the lines that have more than one word there.
+// Whether what stands after the first word of a line of the console is in the form of that line (docs/CONSOLE.md), of
+// the lines that have more than one word there.
 use forms::Form;
 ghost use mathlib.Core.Path.{_≡_};
 ghost use Rattle.console_forms.specs.LineForms.{areTables, isSlotRow, isSlot, isRegister};
 
-pub fn are_tables(r: &[u8]) -> bool
-    ensures { λ a. ⌜ a ≡ areTables (now (r .entry)) ⌝ }
+pub fn are_tables(rest: &[u8]) -> bool
+    ensures { λ a. ⌜ a ≡ areTables (now (rest .entry)) ⌝ }
 {
-    if !decimals::is_number(1, 0, 9, console_words::word(r)) {
+    if !decimals::is_number(1, 0, 9, console_words::word(rest)) {
         return false;
     }
-    decimals::is_number(2, 0, 33, console_words::rest(r))
+    decimals::is_number(2, 0, 33, console_words::rest(rest))
 }
 
 // Whether the three words of digits are those of a slot row.
-fn is_slot_row(d: &[u8]) -> bool
-    ensures { λ a. ⌜ a ≡ isSlotRow (now (d .entry)) ⌝ }
+fn is_slot_row(digits: &[u8]) -> bool
+    ensures { λ a. ⌜ a ≡ isSlotRow (now (digits .entry)) ⌝ }
 {
-    if !forms::in_form(Form::Hex(80), console_words::word(d)) {
+    if !forms::in_form(Form::Hex(80), console_words::word(digits)) {
         return false;
     }
-    if !forms::in_form(Form::Hex(32), console_words::word(console_words::rest(d))) {
+    if !forms::in_form(
+        Form::Hex(32),
+        console_words::word(console_words::rest(digits)),
+    ) {
         return false;
     }
-    forms::in_form(Form::Hex(32), console_words::rest(console_words::rest(d)))
+    forms::in_form(
+        Form::Hex(32),
+        console_words::rest(console_words::rest(digits)),
+    )
 }
 
-pub fn is_slot(r: &[u8]) -> bool
-    ensures { λ a. ⌜ a ≡ isSlot (now (r .entry)) ⌝ }
+pub fn is_slot(rest: &[u8]) -> bool
+    ensures { λ a. ⌜ a ≡ isSlot (now (rest .entry)) ⌝ }
 {
-    if !decimals::is_number(1, 1, 8, console_words::word(r)) {
+    if !decimals::is_number(1, 1, 8, console_words::word(rest)) {
         return false;
     }
-    if !decimals::is_number(3, 0, 255, console_words::word(console_words::rest(r))) {
+    if !decimals::is_number(3, 0, 255, console_words::word(console_words::rest(rest))) {
         return false;
     }
-    is_slot_row(console_words::rest(console_words::rest(r)))
+    is_slot_row(console_words::rest(console_words::rest(rest)))
 }
 
-pub fn is_register(r: &[u8]) -> bool
-    ensures { λ a. ⌜ a ≡ isRegister (now (r .entry)) ⌝ }
+pub fn is_register(rest: &[u8]) -> bool
+    ensures { λ a. ⌜ a ≡ isRegister (now (rest .entry)) ⌝ }
 {
-    if !decimals::is_number(2, 1, 32, console_words::word(r)) {
+    if !decimals::is_number(2, 1, 32, console_words::word(rest)) {
         return false;
     }
-    forms::in_form(Form::Hex(512), console_words::rest(r))
+    forms::in_form(Form::Hex(512), console_words::rest(rest))
 }

@@ -1,4 +1,5 @@
-// The line that is being read: its bytes come in parts, as standard input is read (docs/CONSOLE.md). Of a line that is too long the first 4,097 bytes tell so.
+// The line that is being read: its bytes come in parts, as standard input is read (docs/CONSOLE.md). Of a line that is
+// too long the first 4,097 bytes tell so.
 ghost use mathlib.Core.Path.{_≡_};
 ghost use mathlib.Core.List.{[], _++_};
 ghost use Prim.Native.Nat.{_≤_};
@@ -22,24 +23,24 @@ pub fn nothing() -> Pending
 }
 
 // The bytes so far, and more.
-pub fn added(p: Pending, s: &[u8]) -> Pending
-    ensures { λ q. ⌜ held q ≡ take 4097 (held p ++ now (s .entry)) ⌝ }
+pub fn added(pending: Pending, more: &[u8]) -> Pending
+    ensures { λ q. ⌜ held q ≡ take 4097 (held pending ++ now (more .entry)) ⌝ }
 {
-    let mut bytes = p.bytes;
-    if 4097 < p.length {
-        return p;
+    let mut bytes = pending.bytes;
+    if 4097 < pending.length {
+        return pending;
     }
-    let fits = octets::front(s, 4097 - p.length);
-    let length = octets::put(&mut bytes, p.length, fits);
+    let fits = octets::front(more, 4097 - pending.length);
+    let length = octets::put(&mut bytes, pending.length, fits);
     Pending { bytes, length }
 }
 
-// The number of the line after the one with the number n.
-pub fn next_number(n: u64) -> u64
-    ensures { λ m. ⌜ m ≡ nextNumber n ⌝ }
+// The number of the next line.
+pub fn next_number(number: u64) -> u64
+    ensures { λ m. ⌜ m ≡ nextNumber number ⌝ }
 {
-    if n == 18446744073709551615 {
-        return n;
+    if number == 18446744073709551615 {
+        return number;
     }
-    n + 1
+    number + 1
 }

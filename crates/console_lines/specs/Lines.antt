@@ -1,10 +1,12 @@
--- What a line asks for (docs/CONSOLE.md). r is what stands after its first space. A row is a place among the rows, counted from 0.
+-- What a line asks for (docs/CONSOLE.md). r is what stands after its first space. A row is a place among the rows,
+-- counted from 0.
 use Prim.Native.Nat.{ℕ, _-_}
-use mathlib.Core.Bool.{cond, _&&_}
+use Prim.Native.Char.{code}
+use mathlib.Core.Bool.{cond}
 use mathlib.Core.List.{List, [], _∷_}
 use lib.Dec.{eqb, ltb, leb}
 use lib.ListN.{length, getD}
-use Rattle.octets.specs.Texts.{text}
+use Rattle.octets.specs.Texts.{text, all}
 use Rattle.octets.specs.Strings.{sameBytes}
 use Rattle.decimals.specs.Decimals.{decimal, isNumber}
 use Rattle.fields.specs.Values.{isOctets}
@@ -15,7 +17,8 @@ use Rattle.console_verbs.specs.declared.Part.{Part}
 use Rattle.console_verbs.specs.declared.Verb.{Verb}
 use Rattle.console_verbs.specs.declared.Verb.the-variants as verb
 use Rattle.console_lines.specs.declared.Line.{Line}
-use Rattle.console_lines.specs.declared.Line.the-variants.{Nothing, Tables, Buffer, Set, Passed, Send, Raw, Slot, Register, Rows, Usable, Show, Other}
+use Rattle.console_lines.specs.declared.Line.the-variants.{Nothing, Tables, Buffer, Set, Passed, Send, Raw}
+use Rattle.console_lines.specs.declared.Line.the-variants.{Slot, Register, Rows, Usable, Show, Other}
 
 -- tables S R
 unfoldable pub tablesLine : List ℕ → Line
@@ -39,7 +42,7 @@ sendLine r = cond (leb (length r) 2043) Send Other
 
 -- raw H: at most 2,046 bytes, two digits each
 unfoldable pub rawLine : List ℕ → Line
-rawLine r = cond (leb (length r) 4092 && isOctets r) Raw Other
+rawLine r = cond (all (leb (length r) 4092 ∷ isOctets r ∷ [])) Raw Other
 
 -- slot K S NAME FINGERPRINT TVP
 unfoldable pub slotLine : List ℕ → Line
@@ -83,9 +86,10 @@ restLine verb.Rows r = Other
 restLine verb.Show r = Other
 restLine verb.Unknown r = Other
 
+-- nothing is asked by an empty line or a comment; a line of more than 4,096 bytes has no form
 unfoldable pub lineOf : List ℕ → Line
 lineOf l =
     cond (eqb (length l) 0) Nothing
     (cond (ltb 4096 (length l)) Other
-    (cond (eqb (getD l 0 0) 35) Nothing
+    (cond (eqb (getD l 0 0) (code "#")) Nothing
     (cond (hasRest l) (restLine (verbOf (word l)) (rest l)) (aloneLine (verbOf (word l))))))

@@ -1,19 +1,27 @@
-// A line of the console (docs/CONSOLE.md): what it asks for. What it asks it with stands after its first space, and is not in the answer.
+// A line of the console (docs/CONSOLE.md): what it asks for. What it asks it with stands after its first space, and is
+// not in the answer.
 use console_verbs::Part;
 use console_verbs::Verb;
 ghost use mathlib.Core.Path.{_≡_};
-ghost use Rattle.console_lines.specs.Lines.{tablesLine, bufferLine, partLine, passedLine, sendLine, rawLine, slotLine, registerLine, usableLine, aloneLine, restLine, lineOf};
+ghost use Rattle.console_lines.specs.Lines.{tablesLine, bufferLine, partLine, passedLine, sendLine, rawLine};
+ghost use Rattle.console_lines.specs.Lines.{slotLine, registerLine, usableLine, aloneLine, restLine, lineOf};
 
 // What a line asks for. A row is a place among the rows, counted from 0.
 pub enum Line {
     Nothing,
-    Tables { slots: usize, registers: usize },
+    Tables {
+        slot_count: usize,
+        register_count: usize,
+    },
     Buffer(usize),
     Set(Part),
     Passed(u8),
     Send,
     Raw,
-    Slot { row: usize, state: u8 },
+    Slot {
+        row: usize,
+        state: u8,
+    },
     Register(usize),
     Rows,
     Usable(usize),
@@ -28,8 +36,8 @@ fn tables_line(r: &[u8]) -> Line
         return Line::Other;
     }
     Line::Tables {
-        slots: decimals::decimal(console_words::word(r)) as usize,
-        registers: decimals::decimal(console_words::rest(r)) as usize,
+        slot_count: decimals::decimal(console_words::word(r)) as usize,
+        register_count: decimals::decimal(console_words::rest(r)) as usize,
     }
 }
 
@@ -145,21 +153,21 @@ fn rest_line(v: Verb, r: &[u8]) -> Line
 }
 
 // What a line asks for.
-pub fn line_of(l: &[u8]) -> Line
-    ensures { λ a. ⌜ a ≡ lineOf (now (l .entry)) ⌝ }
+pub fn line_of(line: &[u8]) -> Line
+    ensures { λ a. ⌜ a ≡ lineOf (now (line .entry)) ⌝ }
 {
-    if l.len() == 0 {
+    if line.len() == 0 {
         return Line::Nothing;
     }
-    if 4096 < l.len() {
+    if 4096 < line.len() {
         return Line::Other;
     }
-    if l[0] == 35 {
+    if line[0] == b'#' {
         return Line::Nothing;
     }
-    let v = console_verbs::verb_of(console_words::word(l));
-    if console_words::has_rest(l) {
-        return rest_line(v, console_words::rest(l));
+    let v = console_verbs::verb_of(console_words::word(line));
+    if console_words::has_rest(line) {
+        return rest_line(v, console_words::rest(line));
     }
     alone_line(v)
 }

@@ -7,10 +7,10 @@ ghost use Rattle.octets.specs.Wrote.{Wrote};
 ghost use Rattle.console_outcomes.specs.Outcomes.{leftNumber, outcomeLine};
 
 // The number of the slot state that an outcome carries, or 255.
-fn left_number(o: Outcome) -> u8
-    ensures { λ n. ⌜ n ≡ leftNumber o ⌝ }
+fn left_number(outcome: Outcome) -> u8
+    ensures { λ n. ⌜ n ≡ leftNumber outcome ⌝ }
 {
-    match o {
+    match outcome {
         Outcome::Accepted(s) => slot_tests::state_number(s),
         Outcome::Done => 255,
         Outcome::Refused(_) => 255,
@@ -18,11 +18,12 @@ fn left_number(o: Outcome) -> u8
 }
 
 // The line that answers a request.
-pub fn put_outcome(dst: &mut [u8], number: u64, o: Outcome, response: &[u8]) -> usize
+pub fn put_outcome(dst: &mut [u8], number: u64, outcome: Outcome, response: &[u8]) -> usize
     requires { ⌜ length (now response) + 42 ≤ length (now dst) ⌝ }
-    ensures { λ r. ⌜ Wrote (now (dst .entry)) 0 (outcomeLine number o (now (response .entry))) (now (dst .exit)) r ⌝ }
+    ensures { λ r. ⌜ Wrote (now (dst .entry)) 0 (outcomeLine number outcome (now (response .entry)))
+        (now (dst .exit)) r ⌝ }
     ensures fits { λ r. ⌜ r ≤ length (now (dst .entry)) ⌝ }
 {
-    let outcome = refusal_numbers::outcome_number(o);
-    console_answers::put_answer(dst, number, outcome, left_number(o), response)
+    let n = refusal_numbers::outcome_number(outcome);
+    console_answers::put_answer(dst, number, n, left_number(outcome), response)
 }

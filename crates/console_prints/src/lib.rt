@@ -1,47 +1,49 @@
-// The words of a line that the console prints (docs/CONSOLE.md): each with the space after it, and the last with the line feed.
+// The words of a line that the console prints (docs/CONSOLE.md): each with the space after it, and the last with the
+// line feed.
 ghost use mathlib.Core.Path.{_≡_};
-ghost use mathlib.Core.List.{[], _∷_, _++_};
+ghost use mathlib.Core.List.{_++_};
 ghost use Prim.Native.Nat.{_+_, _≤_};
 ghost use lib.ListN.{length};
+ghost use Rattle.octets.specs.Texts.{text};
 ghost use Rattle.octets.specs.Wrote.{Wrote};
 ghost use Rattle.decimal_writer.specs.Digits.{decimalBytes, longBytes};
 
 // Writes a word and a space.
-pub fn put_word(dst: &mut [u8], at: usize, w: &[u8]) -> usize
-    requires { ⌜ at + length (now w) + 1 ≤ length (now dst) ⌝ }
-    ensures { λ r. ⌜ Wrote (now (dst .entry)) at (now (w .entry) ++ (32 ∷ [])) (now (dst .exit)) r ⌝ }
-    ensures short { λ r. ⌜ r ≡ at + length (now (w .entry)) + 1 ⌝ }
+pub fn put_word(dst: &mut [u8], at: usize, word: &[u8]) -> usize
+    requires { ⌜ at + length (now word) + 1 ≤ length (now dst) ⌝ }
+    ensures { λ r. ⌜ Wrote (now (dst .entry)) at (now (word .entry) ++ text " ") (now (dst .exit)) r ⌝ }
+    ensures short { λ r. ⌜ r ≡ at + length (now (word .entry)) + 1 ⌝ }
 {
-    let space = octets::put(dst, at, w);
-    octets::put_byte(dst, space, 32)
+    let space = octets::put(dst, at, word);
+    octets::put_byte(dst, space, b' ')
 }
 
 // Writes the last word and a line feed.
-pub fn put_last(dst: &mut [u8], at: usize, w: &[u8]) -> usize
-    requires { ⌜ at + length (now w) + 1 ≤ length (now dst) ⌝ }
-    ensures { λ r. ⌜ Wrote (now (dst .entry)) at (now (w .entry) ++ (10 ∷ [])) (now (dst .exit)) r ⌝ }
-    ensures short { λ r. ⌜ r ≡ at + length (now (w .entry)) + 1 ⌝ }
+pub fn put_last(dst: &mut [u8], at: usize, word: &[u8]) -> usize
+    requires { ⌜ at + length (now word) + 1 ≤ length (now dst) ⌝ }
+    ensures { λ r. ⌜ Wrote (now (dst .entry)) at (now (word .entry) ++ text "\n") (now (dst .exit)) r ⌝ }
+    ensures short { λ r. ⌜ r ≡ at + length (now (word .entry)) + 1 ⌝ }
 {
-    let feed = octets::put(dst, at, w);
-    octets::put_byte(dst, feed, 10)
+    let feed = octets::put(dst, at, word);
+    octets::put_byte(dst, feed, b'\n')
 }
 
 // Writes a number and a space.
-pub fn put_number(dst: &mut [u8], at: usize, n: u32) -> usize
+pub fn put_number(dst: &mut [u8], at: usize, number: u32) -> usize
     requires { ⌜ at + 11 ≤ length (now dst) ⌝ }
-    ensures { λ r. ⌜ Wrote (now (dst .entry)) at (decimalBytes n ++ (32 ∷ [])) (now (dst .exit)) r ⌝ }
+    ensures { λ r. ⌜ Wrote (now (dst .entry)) at (decimalBytes number ++ text " ") (now (dst .exit)) r ⌝ }
     ensures short { λ r. ⌜ r ≤ at + 11 ⌝ }
 {
-    let end = decimal_writer::put_decimal(dst, at, n);
-    octets::put_byte(dst, end, 32)
+    let end = decimal_writer::put_decimal(dst, at, number);
+    octets::put_byte(dst, end, b' ')
 }
 
 // Writes a number of any size and a space.
-pub fn put_long(dst: &mut [u8], at: usize, n: u64) -> usize
+pub fn put_long(dst: &mut [u8], at: usize, number: u64) -> usize
     requires { ⌜ at + 21 ≤ length (now dst) ⌝ }
-    ensures { λ r. ⌜ Wrote (now (dst .entry)) at (longBytes n ++ (32 ∷ [])) (now (dst .exit)) r ⌝ }
+    ensures { λ r. ⌜ Wrote (now (dst .entry)) at (longBytes number ++ text " ") (now (dst .exit)) r ⌝ }
     ensures short { λ r. ⌜ r ≤ at + 21 ⌝ }
 {
-    let end = decimal_writer::put_long(dst, at, n);
-    octets::put_byte(dst, end, 32)
+    let end = decimal_writer::put_long(dst, at, number);
+    octets::put_byte(dst, end, b' ')
 }

@@ -1,4 +1,5 @@
--- A request that the console hands in (docs/CONSOLE.md): the call that it makes, the state after it, and the line of its answer.
+-- A request that the console hands in (docs/CONSOLE.md): the call that it makes, the state after it, and the line of
+-- its answer.
 use Prim.Native.Nat.{ℕ}
 use mathlib.Core.Bool.{cond}
 use mathlib.Core.List.{List}
@@ -30,4 +31,6 @@ abbrev pub SaysAnswer : Console → ℕ → List ℕ → List ℕ → List ℕ �
 SaysAnswer c number request before now n =
     InSomeSequence (slotRows (c .tables))
     (λ (names : List (List ℕ)).
-    Wrote before 0 (outcomeLine number (answerOf (callBy c request) .outcome) (response (answerOf (callBy c request)) names)) now n)
+    Wrote before 0
+    (outcomeLine number (answerOf (callBy c request) .outcome) (response (answerOf (callBy c request)) names))
+    now n)

@@ -14,61 +14,72 @@ pub struct Stepped {
 }
 
 // How many bytes of response buffer are lent.
-fn room(c: Console) -> usize
-    ensures { λ n. ⌜ n ≡ room c ⌝ }
+fn room(console: Console) -> usize
+    ensures { λ n. ⌜ n ≡ room console ⌝ }
     ensures small { λ n. ⌜ n ≤ 2048 ⌝ }
 {
-    if 2048 < c.room {
+    if 2048 < console.room {
         return 2048;
     }
-    c.room
+    console.room
 }
 
-// 2,048 bytes 2E. The contract gives only their number, which lending a part of them needs.
+// 2,048 full stops. The contract gives only their number, which lending a part of them needs.
 fn dots() -> [u8; 2048]
     ensures { λ r. ⌜ 2048 ≡ length r ⌝ }
 {
-    [46; 2048]
+    [b'.'; 2048]
 }
 
 // Hands in a request, and prints its answer.
-fn hand_in(c: Console, number: u64, request: &[u8], out: &mut [u8]) -> Stepped
+fn hand_in(console: Console, number: u64, request: &[u8], out: &mut [u8]) -> Stepped
     requires { ⌜ 20480 ≤ length (now out) ⌝ }
-    ensures { λ s. ⌜ s .console ≡ answeredBy c (now (request .entry)) ⌝ }
-    ensures printed { λ s. ⌜ SaysAnswer c number (now (request .entry)) (now (out .entry)) (now (out .exit)) (s .length) ⌝ }
+    ensures { λ s. ⌜ s .console ≡ answeredBy console (now (request .entry)) ⌝ }
+    ensures printed { λ s. ⌜ SaysAnswer console number (now (request .entry))
+        (now (out .entry)) (now (out .exit)) (s .length) ⌝ }
     ensures fits { λ s. ⌜ s .length ≤ length (now (out .entry)) ⌝ }
 {
     let mut response = dots();
-    let n = room(c);
-    let a = core::handle(c.tables, c.supplement, request, &mut response[..n]);
+    let n = room(console);
+    let a = core::handle(
+        console.tables,
+        console.supplement,
+        request,
+        &mut response[..n],
+    );
     let m = a.length;
     let o = a.outcome;
     let length = console_outcomes::put_outcome(out, number, o, &response[..m]);
-    let console = console_state::with_tables(c, a.tables);
-    Stepped { console, length }
+    let after = console_state::with_tables(console, a.tables);
+    Stepped {
+        console: after,
+        length,
+    }
 }
 
 // Hands in a text with its checksum and carriage return.
-pub fn send(c: Console, number: u64, text: &[u8], out: &mut [u8]) -> Stepped
+pub fn send(console: Console, number: u64, text: &[u8], out: &mut [u8]) -> Stepped
     requires { ⌜ (length (now text) ≤ 2043) × (20480 ≤ length (now out)) ⌝ }
-    ensures { λ s. ⌜ s .console ≡ answeredBy c (framed (now (text .entry))) ⌝ }
-    ensures printed { λ s. ⌜ SaysAnswer c number (framed (now (text .entry))) (now (out .entry)) (now (out .exit)) (s .length) ⌝ }
+    ensures { λ s. ⌜ s .console ≡ answeredBy console (framed (now (text .entry))) ⌝ }
+    ensures printed { λ s. ⌜ SaysAnswer console number (framed (now (text .entry)))
+        (now (out .entry)) (now (out .exit)) (s .length) ⌝ }
     ensures fits { λ s. ⌜ s .length ≤ length (now (out .entry)) ⌝ }
 {
     let mut request = dots();
     let n = octets::put(&mut request, 0, text);
     let m = frame_writer::close_message(&mut request, n);
-    hand_in(c, number, &request[..m], out)
+    hand_in(console, number, &request[..m], out)
 }
 
 // Hands in the octets of digits.
-pub fn send_octets(c: Console, number: u64, digits: &[u8], out: &mut [u8]) -> Stepped
+pub fn send_octets(console: Console, number: u64, digits: &[u8], out: &mut [u8]) -> Stepped
     requires { ⌜ (length (now digits) ≤ 4096) × (20480 ≤ length (now out)) ⌝ }
-    ensures { λ s. ⌜ s .console ≡ answeredBy c (octetsOf (now (digits .entry))) ⌝ }
-    ensures printed { λ s. ⌜ SaysAnswer c number (octetsOf (now (digits .entry))) (now (out .entry)) (now (out .exit)) (s .length) ⌝ }
+    ensures { λ s. ⌜ s .console ≡ answeredBy console (octetsOf (now (digits .entry))) ⌝ }
+    ensures printed { λ s. ⌜ SaysAnswer console number (octetsOf (now (digits .entry)))
+        (now (out .entry)) (now (out .exit)) (s .length) ⌝ }
     ensures fits { λ s. ⌜ s .length ≤ length (now (out .entry)) ⌝ }
 {
     let mut request = dots();
     let n = hex_octets::put_octets(&mut request, digits);
-    hand_in(c, number, &request[..n], out)
+    hand_in(console, number, &request[..n], out)
 }

@@ -15,10 +15,17 @@ use Rattle.console_prints.specs.Prints.{lineBytes}
 unfoldable pub slotLine : ℕ → SlotRow → List ℕ
 slotLine k r =
     cond (isZeroSlot r) []
-    (lineBytes ((text "slot") ∷ decimalBytes (k + 1) ∷ decimalBytes (r .state) ∷ digitsOf (r .kmcid) ∷ digitsOf (r .fingerprint) ∷ digitsOf (r .tvp) ∷ []))
+    (lineBytes (
+    text "slot"
+    ∷ decimalBytes (k + 1)
+    ∷ decimalBytes (r .state)
+    ∷ digitsOf (r .kmcid)
+    ∷ digitsOf (r .fingerprint)
+    ∷ digitsOf (r .tvp)
+    ∷ []))
 
 -- register K CARD
 unfoldable pub registerLine : ℕ → RegisterRow → List ℕ
 registerLine k r =
     cond (isVacant r) []
-    (lineBytes ((text "register") ∷ decimalBytes (k + 1) ∷ digitsOf (r .card) ∷ []))
+    (lineBytes (text "register" ∷ decimalBytes (k + 1) ∷ digitsOf (r .card) ∷ []))

@@ -23,39 +23,41 @@ fn put_digits(dst: &mut [u8], at: usize, s: &[u8], after: u8) -> usize
 // The last three words of a slot row's line.
 fn put_fields(dst: &mut [u8], at: usize, row: SlotRow) -> usize
     requires { ⌜ at + 147 ≤ length (now dst) ⌝ }
-    ensures { λ r. ⌜ Wrote (now (dst .entry)) at (lineBytes (digitsOf (row .kmcid) ∷ digitsOf (row .fingerprint) ∷ digitsOf (row .tvp) ∷ [])) (now (dst .exit)) r ⌝ }
+    ensures { λ r. ⌜ Wrote (now (dst .entry)) at
+        (lineBytes (digitsOf (row .kmcid) ∷ digitsOf (row .fingerprint) ∷ digitsOf (row .tvp) ∷ []))
+        (now (dst .exit)) r ⌝ }
     ensures short { λ r. ⌜ r ≤ at + 147 ⌝ }
 {
-    let a = put_digits(dst, at, &row.kmcid, 32);
-    let b = put_digits(dst, a, &row.fingerprint, 32);
-    put_digits(dst, b, &row.tvp, 10)
+    let a = put_digits(dst, at, &row.kmcid, b' ');
+    let b = put_digits(dst, a, &row.fingerprint, b' ');
+    put_digits(dst, b, &row.tvp, b'\n')
 }
 
-// One slot row in the form of a line, of a row that is all zero nothing; k is its place.
-pub fn put_slot(dst: &mut [u8], at: usize, k: usize, row: SlotRow) -> usize
-    requires { ⌜ (k < 8) × (at + 180 ≤ length (now dst)) ⌝ }
-    ensures { λ r. ⌜ Wrote (now (dst .entry)) at (slotLine k row) (now (dst .exit)) r ⌝ }
+// One slot row in the form of a line, of a row that is all zero nothing; `index` counts from 0.
+pub fn put_slot(dst: &mut [u8], at: usize, index: usize, row: SlotRow) -> usize
+    requires { ⌜ (index < 8) × (at + 180 ≤ length (now dst)) ⌝ }
+    ensures { λ r. ⌜ Wrote (now (dst .entry)) at (slotLine index row) (now (dst .exit)) r ⌝ }
     ensures short { λ r. ⌜ r ≤ at + 180 ⌝ }
 {
     if slot_forms::is_zero_slot(row) {
         return at;
     }
     let a = console_prints::put_word(dst, at, b"slot");
-    let b = console_prints::put_number(dst, a, k as u32 + 1);
+    let b = console_prints::put_number(dst, a, index as u32 + 1);
     let c = console_prints::put_number(dst, b, row.state as u32);
     put_fields(dst, c, row)
 }
 
-// One register row in the form of a line, of a free one nothing; k is its place.
-pub fn put_register(dst: &mut [u8], at: usize, k: usize, row: RegisterRow) -> usize
-    requires { ⌜ (k < 32) × (at + 533 ≤ length (now dst)) ⌝ }
-    ensures { λ r. ⌜ Wrote (now (dst .entry)) at (registerLine k row) (now (dst .exit)) r ⌝ }
+// One register row in the form of a line, of a free one nothing; `index` counts from 0.
+pub fn put_register(dst: &mut [u8], at: usize, index: usize, row: RegisterRow) -> usize
+    requires { ⌜ (index < 32) × (at + 533 ≤ length (now dst)) ⌝ }
+    ensures { λ r. ⌜ Wrote (now (dst .entry)) at (registerLine index row) (now (dst .exit)) r ⌝ }
     ensures short { λ r. ⌜ r ≤ at + 533 ⌝ }
 {
     if register_rows::is_vacant(row) {
         return at;
     }
     let a = console_prints::put_word(dst, at, b"register");
-    let b = console_prints::put_number(dst, a, k as u32 + 1);
-    put_digits(dst, b, &row.card, 10)
+    let b = console_prints::put_number(dst, a, index as u32 + 1);
+    put_digits(dst, b, &row.card, b'\n')
 }

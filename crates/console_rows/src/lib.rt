@@ -38,13 +38,13 @@ fn put_registers(dst: &mut [u8], at: usize, registers: [RegisterRow; 32]) -> usi
 }
 
 // Each row that is not all zero, in the form of the line that sets it.
-pub fn put_rows(dst: &mut [u8], t: Tables) -> usize
+pub fn put_rows(dst: &mut [u8], tables: Tables) -> usize
     requires { ⌜ 18496 ≤ length (now dst) ⌝ }
-    ensures { λ r. ⌜ Wrote (now (dst .entry)) 0 (rowLines t) (now (dst .exit)) r ⌝ }
+    ensures { λ r. ⌜ Wrote (now (dst .entry)) 0 (rowLines tables) (now (dst .exit)) r ⌝ }
     ensures fits { λ r. ⌜ r ≤ length (now (dst .entry)) ⌝ }
 {
-    let slots = t.slots;
-    let registers = t.registers;
+    let slots = tables.slots;
+    let registers = tables.registers;
     let a = put_slots(dst, slots);
     put_registers(dst, a, registers)
 }

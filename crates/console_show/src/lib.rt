@@ -41,14 +41,14 @@ fn put_registers(dst: &mut [u8], at: usize, t: Tables, registers: [RegisterRow; 
 }
 
 // The counts, and each row that is not all zero.
-pub fn put_show(dst: &mut [u8], t: Tables) -> usize
+pub fn put_show(dst: &mut [u8], tables: Tables) -> usize
     requires { ⌜ 10200 ≤ length (now dst) ⌝ }
-    ensures { λ r. ⌜ Wrote (now (dst .entry)) 0 (shownRows t) (now (dst .exit)) r ⌝ }
+    ensures { λ r. ⌜ Wrote (now (dst .entry)) 0 (shownRows tables) (now (dst .exit)) r ⌝ }
     ensures fits { λ r. ⌜ r ≤ length (now (dst .entry)) ⌝ }
 {
-    let slots = t.slots;
-    let registers = t.registers;
-    let a = console_shown_rows::put_counts(dst, t);
+    let slots = tables.slots;
+    let registers = tables.registers;
+    let a = console_shown_rows::put_counts(dst, tables);
     let b = put_slots(dst, a, slots);
-    put_registers(dst, b, t, registers)
+    put_registers(dst, b, tables, registers)
 }

@@ -1,4 +1,5 @@
--- One row for people, and how many rows there are: the line `show` (docs/CONSOLE.md). Of a row that is all zero nothing is shown.
+-- One row for people, and how many rows there are: the line `show` (docs/CONSOLE.md). Of a row that is all zero nothing
+-- is shown.
 use Prim.Native.Nat.{ℕ, _+_}
 use mathlib.Core.Bool.{Bool, cond}
 use mathlib.Core.List.{List, [], _∷_}
@@ -21,20 +22,27 @@ usableShown b = cond b (text "usable") (text "unusable")
 unfoldable pub slotShown : ℕ → SlotRow → List ℕ
 slotShown k r =
     cond (isZeroSlot r) []
-    (lineBytes ((text "slot") ∷ decimalBytes (k + 1) ∷ stateName (63 ∷ []) (r .state) ∷ shown (r .kmcid) ∷ shown (r .fingerprint) ∷ shown (r .tvp) ∷ []))
+    (lineBytes (
+    text "slot"
+    ∷ decimalBytes (k + 1)
+    ∷ stateName (text "?") (r .state)
+    ∷ shown (r .kmcid)
+    ∷ shown (r .fingerprint)
+    ∷ shown (r .tvp)
+    ∷ []))
 
 -- register K usable CARD, or register K unusable CARD
 unfoldable pub registerShown : Bool → ℕ → RegisterRow → List ℕ
 registerShown b k r =
     cond (isVacant r) []
-    (lineBytes ((text "register") ∷ decimalBytes (k + 1) ∷ usableShown b ∷ shown (r .card) ∷ []))
+    (lineBytes (text "register" ∷ decimalBytes (k + 1) ∷ usableShown b ∷ shown (r .card) ∷ []))
 
 -- S slot rows, R register rows
 unfoldable pub countsShown : Tables → List ℕ
 countsShown t =
     lineBytes
     (longBytes (t .«slot_count»)
-    ∷ (text "slot rows,")
+    ∷ text "slot rows,"
     ∷ longBytes (t .«register_count»)
-    ∷ (text "register rows")
+    ∷ text "register rows"
     ∷ [])

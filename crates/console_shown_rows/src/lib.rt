@@ -5,6 +5,7 @@ use rows::Tables;
 ghost use mathlib.Core.List.{[], _∷_, _++_};
 ghost use Prim.Native.Nat.{_+_, _≤_, _<_};
 ghost use lib.ListN.{length};
+ghost use Rattle.octets.specs.Texts.{text};
 ghost use Rattle.octets.specs.Wrote.{Wrote};
 ghost use Rattle.console_prints.specs.Prints.{lineBytes};
 ghost use Rattle.console_text.specs.Texts.{shown};
@@ -13,32 +14,34 @@ ghost use Rattle.console_shown_rows.specs.OneRow.{usableShown, slotShown
 // The last three words of a slot row's line.
 fn put_fields(dst: &mut [u8], at: usize, row: SlotRow) -> usize
     requires { ⌜ at + 78 ≤ length (now dst) ⌝ }
-    ensures { λ r. ⌜ Wrote (now (dst .entry)) at (lineBytes (shown (row .kmcid) ∷ shown (row .fingerprint) ∷ shown (row .tvp) ∷ [])) (now (dst .exit)) r ⌝ }
+    ensures { λ r. ⌜ Wrote (now (dst .entry)) at
+        (lineBytes (shown (row .kmcid) ∷ shown (row .fingerprint) ∷ shown (row .tvp) ∷ []))
+        (now (dst .exit)) r ⌝ }
     ensures short { λ r. ⌜ r ≤ at + 78 ⌝ }
 {
-    let a = console_text::put_shown(dst, at, &row.kmcid, 32);
-    let b = console_text::put_shown(dst, a, &row.fingerprint, 32);
-    console_text::put_shown(dst, b, &row.tvp, 10)
+    let a = console_text::put_shown(dst, at, &row.kmcid, b' ');
+    let b = console_text::put_shown(dst, a, &row.fingerprint, b' ');
+    console_text::put_shown(dst, b, &row.tvp, b'\n')
 }
 
-// One slot row, of a row that is all zero nothing; k is its place.
-pub fn put_slot(dst: &mut [u8], at: usize, k: usize, row: SlotRow) -> usize
-    requires { ⌜ (k < 8) × (at + 105 ≤ length (now dst)) ⌝ }
-    ensures { λ r. ⌜ Wrote (now (dst .entry)) at (slotShown k row) (now (dst .exit)) r ⌝ }
+// One slot row, of a row that is all zero nothing; `index` counts from 0.
+pub fn put_slot(dst: &mut [u8], at: usize, index: usize, row: SlotRow) -> usize
+    requires { ⌜ (index < 8) × (at + 105 ≤ length (now dst)) ⌝ }
+    ensures { λ r. ⌜ Wrote (now (dst .entry)) at (slotShown index row) (now (dst .exit)) r ⌝ }
     ensures short { λ r. ⌜ r ≤ at + 105 ⌝ }
 {
     if slot_forms::is_zero_slot(row) {
         return at;
     }
     let a = console_prints::put_word(dst, at, b"slot");
-    let b = console_prints::put_number(dst, a, k as u32 + 1);
+    let b = console_prints::put_number(dst, a, index as u32 + 1);
     let c = console_states::put_state(dst, b, row.state, b"?");
     put_fields(dst, c, row)
 }
 
 fn put_usable(dst: &mut [u8], at: usize, yes: bool) -> usize
     requires { ⌜ at + 9 ≤ length (now dst) ⌝ }
-    ensures { λ r. ⌜ Wrote (now (dst .entry)) at (usableShown yes ++ (32 ∷ [])) (now (dst .exit)) r ⌝ }
+    ensures { λ r. ⌜ Wrote (now (dst .entry)) at (usableShown yes ++ text " ") (now (dst .exit)) r ⌝ }
     ensures short { λ r. ⌜ r ≤ at + 9 ⌝ }
 {
     if yes {
@@ -47,28 +50,28 @@ fn put_usable(dst: &mut [u8], at: usize, yes: bool) -> usize
     console_prints::put_word(dst, at, b"unusable")
 }
 
-// One register row, of a free one nothing; k is its place, and `yes` whether its key may vend.
-pub fn put_register(dst: &mut [u8], at: usize, k: usize, yes: bool, row: RegisterRow) -> usize
-    requires { ⌜ (k < 32) × (at + 290 ≤ length (now dst)) ⌝ }
-    ensures { λ r. ⌜ Wrote (now (dst .entry)) at (registerShown yes k row) (now (dst .exit)) r ⌝ }
+// One register row, of a free one nothing; `index` counts from 0, and `yes` is whether its key may vend.
+pub fn put_register(dst: &mut [u8], at: usize, index: usize, yes: bool, row: RegisterRow) -> usize
+    requires { ⌜ (index < 32) × (at + 290 ≤ length (now dst)) ⌝ }
+    ensures { λ r. ⌜ Wrote (now (dst .entry)) at (registerShown yes index row) (now (dst .exit)) r ⌝ }
     ensures short { λ r. ⌜ r ≤ at + 290 ⌝ }
 {
     if register_rows::is_vacant(row) {
         return at;
     }
     let a = console_prints::put_word(dst, at, b"register");
-    let b = console_prints::put_number(dst, a, k as u32 + 1);
+    let b = console_prints::put_number(dst, a, index as u32 + 1);
     let c = put_usable(dst, b, yes);
-    console_text::put_shown(dst, c, &row.card, 10)
+    console_text::put_shown(dst, c, &row.card, b'\n')
 }
 
-pub fn put_counts(dst: &mut [u8], t: Tables) -> usize
+pub fn put_counts(dst: &mut [u8], tables: Tables) -> usize
     requires { ⌜ 80 ≤ length (now dst) ⌝ }
-    ensures { λ r. ⌜ Wrote (now (dst .entry)) 0 (countsShown t) (now (dst .exit)) r ⌝ }
+    ensures { λ r. ⌜ Wrote (now (dst .entry)) 0 (countsShown tables) (now (dst .exit)) r ⌝ }
     ensures short { λ r. ⌜ r ≤ 80 ⌝ }
 {
-    let a = console_prints::put_long(dst, 0, t.slot_count as u64);
+    let a = console_prints::put_long(dst, 0, tables.slot_count as u64);
     let b = console_prints::put_word(dst, a, b"slot rows,");
-    let c = console_prints::put_long(dst, b, t.register_count as u64);
+    let c = console_prints::put_long(dst, b, tables.register_count as u64);
     console_prints::put_last(dst, c, b"register rows")
 }

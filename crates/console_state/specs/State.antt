@@ -1,4 +1,5 @@
--- The console's state, and what a line that hands nothing in does to it (docs/CONSOLE.md). r is what stands after the line's first space.
+-- The console's state, and what a line that hands nothing in does to it (docs/CONSOLE.md). r is what stands after the
+-- line's first space.
 use Prim.Native.Nat.{ℕ}
 use mathlib.Core.Bool.{Bool, true, cond}
 use mathlib.Core.List.{List}

@@ -13,47 +13,47 @@ pub struct Console {
 }
 
 // Whether the line sets no row, or one that the tables have.
-fn has_row(t: Tables, line: Line) -> bool
-    ensures { λ a. ⌜ a ≡ hasRow t line ⌝ }
+fn has_row(tables: Tables, line: Line) -> bool
+    ensures { λ a. ⌜ a ≡ hasRow tables line ⌝ }
 {
     match line {
-        Line::Slot { row, state: _ } => row < t.slot_count,
-        Line::Register(row) => row < t.register_count,
+        Line::Slot { row, state: _ } => row < tables.slot_count,
+        Line::Register(row) => row < tables.register_count,
         _ => true,
     }
 }
 
 // The line, or another form where it sets a row that the tables lack.
-pub fn checked(t: Tables, line: Line) -> Line
-    ensures { λ a. ⌜ a ≡ checked t line ⌝ }
+pub fn checked(tables: Tables, line: Line) -> Line
+    ensures { λ a. ⌜ a ≡ checked tables line ⌝ }
 {
-    if has_row(t, line) {
+    if has_row(tables, line) {
         return line;
     }
     Line::Other
 }
 
 // The state with other tables.
-pub fn with_tables(c: Console, t: Tables) -> Console
-    ensures { λ d. ⌜ d ≡ withTables t c ⌝ }
+pub fn with_tables(console: Console, tables: Tables) -> Console
+    ensures { λ d. ⌜ d ≡ withTables tables console ⌝ }
 {
-    let mut d = c;
-    d.tables = t;
+    let mut d = console;
+    d.tables = tables;
     d
 }
 
-fn with_supplement(c: Console, x: Supplement) -> Console
-    ensures { λ d. ⌜ d ≡ withSupplement x c ⌝ }
+fn with_supplement(console: Console, supplement: Supplement) -> Console
+    ensures { λ d. ⌜ d ≡ withSupplement supplement console ⌝ }
 {
-    let mut d = c;
-    d.supplement = x;
+    let mut d = console;
+    d.supplement = supplement;
     d
 }
 
-fn with_room(c: Console, room: usize) -> Console
-    ensures { λ d. ⌜ d ≡ withRoom room c ⌝ }
+fn with_room(console: Console, room: usize) -> Console
+    ensures { λ d. ⌜ d ≡ withRoom room console ⌝ }
 {
-    let mut d = c;
+    let mut d = console;
     d.room = room;
     d
 }
@@ -69,33 +69,39 @@ pub fn start() -> Console
     }
 }
 
-// The state after a line that hands nothing in; r is what stands after the line's first space.
-pub fn set_by(c: Console, line: Line, r: &[u8]) -> Console
-    ensures { λ d. ⌜ d ≡ setBy c line (now (r .entry)) ⌝ }
+// The state after a line that hands nothing in; `rest` is what stands after the line's first space.
+pub fn set_by(console: Console, line: Line, rest: &[u8]) -> Console
+    ensures { λ d. ⌜ d ≡ setBy console line (now (rest .entry)) ⌝ }
 {
     match line {
-        Line::Tables { slots, registers } => {
-            with_tables(c, console_tables::empty_tables(slots, registers))
+        Line::Tables {
+            slot_count,
+            register_count,
+        } => {
+            let t = console_tables::empty_tables(slot_count, register_count);
+            with_tables(console, t)
         }
-        Line::Buffer(n) => with_room(c, n),
+        Line::Buffer(n) => with_room(console, n),
         Line::Set(p) => {
-            let x = console_supplement::set_part(c.supplement, p, r);
-            with_supplement(c, x)
+            let x = console_supplement::set_part(console.supplement, p, rest);
+            with_supplement(console, x)
         }
         Line::Passed(n) => {
-            let x = console_supplement::set_passed(c.supplement, n);
-            with_supplement(c, x)
+            let x = console_supplement::set_passed(console.supplement, n);
+            with_supplement(console, x)
         }
         Line::Slot { row, state } => {
-            let d = console_words::rest(console_words::rest(r));
-            let t = console_tables::set_slot(c.tables, row, console_tables::slot_of(state, d));
-            with_tables(c, t)
+            let d = console_words::rest(console_words::rest(rest));
+            let filled = console_tables::slot_of(state, d);
+            let t = console_tables::set_slot(console.tables, row, filled);
+            with_tables(console, t)
         }
         Line::Register(row) => {
-            let d = console_words::rest(r);
-            let t = console_tables::set_register(c.tables, row, console_tables::register_of(d));
-            with_tables(c, t)
+            let d = console_words::rest(rest);
+            let filled = console_tables::register_of(d);
+            let t = console_tables::set_register(console.tables, row, filled);
+            with_tables(console, t)
         }
-        _ => c,
+        _ => console,
     }
 }

@@ -4,9 +4,9 @@ use mathlib.Core.List.{List, [], _∷_}
 use lib.ListN.{getD}
 use Rattle.octets.specs.Texts.{text}
 
--- FREE, PENDING, LOADING, IDLE: the names of the numbers 0 to 3
+-- the names of the numbers 0 to 3
 abbrev pub names : List (List ℕ)
-names = (text "FREE") ∷ (text "PENDING") ∷ (text "LOADING") ∷ (text "IDLE") ∷ []
+names = text "FREE" ∷ text "PENDING" ∷ text "LOADING" ∷ text "IDLE" ∷ []
 
 -- the name of a state's number, or `other` for the number of no state
 unfoldable pub stateName : List ℕ → ℕ → List ℕ

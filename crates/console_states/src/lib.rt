@@ -1,17 +1,19 @@
 // The names of the slot states that the console prints (docs/CONSOLE.md).
-ghost use mathlib.Core.List.{[], _∷_, _++_};
+ghost use mathlib.Core.List.{_++_};
 ghost use Prim.Native.Nat.{_+_, _≤_};
 ghost use lib.ListN.{length};
+ghost use Rattle.octets.specs.Texts.{text};
 ghost use Rattle.octets.specs.Wrote.{Wrote};
 ghost use Rattle.console_states.specs.States.{stateName};
 
 // Writes the name of a state's number, or `other` for the number of no state, and a space.
-pub fn put_state(dst: &mut [u8], at: usize, n: u8, other: &[u8]) -> usize
+pub fn put_state(dst: &mut [u8], at: usize, state: u8, other: &[u8]) -> usize
     requires { ⌜ (at + 8 ≤ length (now dst)) × (length (now other) ≤ 7) ⌝ }
-    ensures { λ r. ⌜ Wrote (now (dst .entry)) at (stateName (now (other .entry)) n ++ (32 ∷ [])) (now (dst .exit)) r ⌝ }
+    ensures { λ r. ⌜ Wrote (now (dst .entry)) at (stateName (now (other .entry)) state ++ text " ")
+        (now (dst .exit)) r ⌝ }
     ensures short { λ r. ⌜ r ≤ at + 8 ⌝ }
 {
-    match n {
+    match state {
         0 => console_prints::put_word(dst, at, b"FREE"),
         1 => console_prints::put_word(dst, at, b"PENDING"),
         2 => console_prints::put_word(dst, at, b"LOADING"),

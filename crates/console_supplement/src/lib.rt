@@ -52,35 +52,35 @@ fn request_space(v: &[u8]) -> [u8; 700]
 }
 
 // The supplement with one part set.
-pub fn set_part(x: Supplement, p: Part, v: &[u8]) -> Supplement
-    ensures { λ y. ⌜ y ≡ withPart p (now (v .entry)) x ⌝ }
+pub fn set_part(supplement: Supplement, part: Part, value: &[u8]) -> Supplement
+    ensures { λ y. ⌜ y ≡ withPart part (now (value .entry)) supplement ⌝ }
 {
-    let mut y = x;
-    match p {
+    let mut y = supplement;
+    match part {
         Part::Clock => {
-            let clock = sixteen(v);
+            let clock = sixteen(value);
             y.clock = clock;
             y
         }
         Part::Identity => {
-            let identity = identity_space(v);
+            let identity = identity_space(value);
             y.identity = identity;
-            y.identity_length = v.len();
+            y.identity_length = value.len();
             y
         }
         Part::LoadRequest => {
-            let request = request_space(v);
+            let request = request_space(value);
             y.request = request;
-            y.request_length = v.len();
+            y.request_length = value.len();
             y
         }
         Part::Tag => {
-            let tag = forty_eight(v);
+            let tag = forty_eight(value);
             y.tag = tag;
             y
         }
         Part::Check => {
-            let check = six(v);
+            let check = six(value);
             y.check = check;
             y
         }
@@ -88,10 +88,10 @@ pub fn set_part(x: Supplement, p: Part, v: &[u8]) -> Supplement
 }
 
 // The supplement with another yes or no.
-pub fn set_passed(x: Supplement, passed: u8) -> Supplement
-    ensures { λ y. ⌜ y ≡ withPassed passed x ⌝ }
+pub fn set_passed(supplement: Supplement, passed: u8) -> Supplement
+    ensures { λ y. ⌜ y ≡ withPassed passed supplement ⌝ }
 {
-    let mut y = x;
+    let mut y = supplement;
     y.passed = passed;
     y
 }
@@ -105,8 +105,8 @@ fn blank() -> Supplement
         identity_length: 0,
         request: [0; 700],
         request_length: 0,
-        tag: [48; 48],
-        check: [48; 6],
+        tag: [b'0'; 48],
+        check: [b'0'; 6],
         passed: 1,
     }
 }

@@ -1,4 +1,5 @@
--- The tables that the console lends, and the rows that lines set (docs/CONSOLE.md). What is too short for its place has zeros after it; what is too long is cut.
+-- The tables that the console lends, and the rows that lines set (docs/CONSOLE.md). What is too short for its place has
+-- zeros after it; what is too long is cut.
 use Prim.Native.Nat.{ℕ}
 use mathlib.Core.List.{List}
 use lib.ListN.{set, replicate}
@@ -14,7 +15,12 @@ use Rattle.console_words.specs.Words.{word, rest}
 -- NAME FINGERPRINT TVP
 unfoldable pub slotOf : ℕ → List ℕ → SlotRow
 slotOf state d =
-    record { state = state; kmcid = padded 40 (octetsOf (word d)); fingerprint = padded 16 (octetsOf (word (rest d))); tvp = padded 16 (octetsOf (rest (rest d))) }
+    record {
+      state = state;
+      kmcid = padded 40 (octetsOf (word d));
+      fingerprint = padded 16 (octetsOf (word (rest d)));
+      tvp = padded 16 (octetsOf (rest (rest d)));
+    }
 
 -- CARD
 unfoldable pub registerOf : List ℕ → RegisterRow
@@ -22,11 +28,29 @@ registerOf d = record { card = padded 256 (octetsOf d) }
 
 -- so many rows, all zero
 unfoldable pub emptyTables : ℕ → ℕ → Tables
-emptyTables m n = record { slots = replicate 8 freeSlot; registers = replicate 32 freeRegister; «slot_count» = m; «register_count» = n }
+emptyTables slotCount registerCount =
+    record {
+      slots = replicate 8 freeSlot;
+      registers = replicate 32 freeRegister;
+      «slot_count» = slotCount;
+      «register_count» = registerCount;
+    }
 
 -- a row in place k, counted from 0
 unfoldable pub withSlot : ℕ → SlotRow → Tables → Tables
-withSlot k row t = record { slots = set (t .slots) k row; registers = t .registers; «slot_count» = t .«slot_count»; «register_count» = t .«register_count» }
+withSlot k row t =
+    record {
+      slots = set (t .slots) k row;
+      registers = t .registers;
+      «slot_count» = t .«slot_count»;
+      «register_count» = t .«register_count»;
+    }
 
 unfoldable pub withRegister : ℕ → RegisterRow → Tables → Tables
-withRegister k row t = record { slots = t .slots; registers = set (t .registers) k row; «slot_count» = t .«slot_count»; «register_count» = t .«register_count» }
+withRegister k row t =
+    record {
+      slots = t .slots;
+      registers = set (t .registers) k row;
+      «slot_count» = t .«slot_count»;
+      «register_count» = t .«register_count»;
+    }

@@ -25,30 +25,30 @@ fn in_sixteen(s: &[u8]) -> [u8; 16]
 }
 
 // The slot row of a state and three words of digits.
-pub fn slot_of(state: u8, d: &[u8]) -> SlotRow
-    ensures { λ r. ⌜ r ≡ slotOf state (now (d .entry)) ⌝ }
+pub fn slot_of(state: u8, digits: &[u8]) -> SlotRow
+    ensures { λ r. ⌜ r ≡ slotOf state (now (digits .entry)) ⌝ }
 {
-    let after = console_words::rest(d);
+    let after = console_words::rest(digits);
     SlotRow {
         state,
-        kmcid: in_forty(console_words::word(d)),
+        kmcid: in_forty(console_words::word(digits)),
         fingerprint: in_sixteen(console_words::word(after)),
         tvp: in_sixteen(console_words::rest(after)),
     }
 }
 
 // The register row of a word of digits.
-pub fn register_of(d: &[u8]) -> RegisterRow
-    ensures { λ r. ⌜ r ≡ registerOf (now (d .entry)) ⌝ }
+pub fn register_of(digits: &[u8]) -> RegisterRow
+    ensures { λ r. ⌜ r ≡ registerOf (now (digits .entry)) ⌝ }
 {
     let mut card = [0u8; 256];
-    hex_octets::put_octets(&mut card, octets::front(d, 512));
+    hex_octets::put_octets(&mut card, octets::front(digits, 512));
     RegisterRow { card }
 }
 
-// Tables of m slot rows and n register rows, all zero.
-pub fn empty_tables(m: usize, n: usize) -> Tables
-    ensures { λ t. ⌜ t ≡ emptyTables m n ⌝ }
+// Tables of so many slot rows and register rows, all zero.
+pub fn empty_tables(slot_count: usize, register_count: usize) -> Tables
+    ensures { λ t. ⌜ t ≡ emptyTables «slot_count» «register_count» ⌝ }
 {
     let slot = slot_rows::free_slot();
     let register = register_rows::free_register();
@@ -57,29 +57,29 @@ pub fn empty_tables(m: usize, n: usize) -> Tables
     Tables {
         slots,
         registers,
-        slot_count: m,
-        register_count: n,
+        slot_count,
+        register_count,
     }
 }
 
-// The tables with another slot row in place k.
-pub fn set_slot(t: Tables, k: usize, row: SlotRow) -> Tables
-    ensures { λ u. ⌜ u ≡ withSlot k row t ⌝ }
+// The tables with another slot row at an index.
+pub fn set_slot(tables: Tables, index: usize, row: SlotRow) -> Tables
+    ensures { λ u. ⌜ u ≡ withSlot index row tables ⌝ }
 {
-    let mut u = t;
-    if k < 8 {
-        u.slots[k] = row;
+    let mut u = tables;
+    if index < 8 {
+        u.slots[index] = row;
     }
     u
 }
 
-// The tables with another register row in place k.
-pub fn set_register(t: Tables, k: usize, row: RegisterRow) -> Tables
-    ensures { λ u. ⌜ u ≡ withRegister k row t ⌝ }
+// The tables with another register row at an index.
+pub fn set_register(tables: Tables, index: usize, row: RegisterRow) -> Tables
+    ensures { λ u. ⌜ u ≡ withRegister index row tables ⌝ }
 {
-    let mut u = t;
-    if k < 32 {
-        u.registers[k] = row;
+    let mut u = tables;
+    if index < 32 {
+        u.registers[index] = row;
     }
     u
 }

@@ -1,4 +1,5 @@
-// Bytes of a row shown as text: what stands before the first zero, with a full stop for each byte that is no text, and - for nothing.
+// Bytes of a row shown as text: what stands before the first zero, with a full stop for each byte that is no text, and
+// - for nothing.
 use text::Class;
 ghost use mathlib.Core.Path.{_≡_};
 ghost use mathlib.Core.List.{[], _∷_, _++_, map};
@@ -15,7 +16,7 @@ fn put_legible(dst: &mut [u8], at: usize, b: u8) -> usize
     if text::is_of(Class::Text, b) {
         return octets::put_byte(dst, at, b);
     }
-    octets::put_byte(dst, at, 46)
+    octets::put_byte(dst, at, b'.')
 }
 
 fn put_text(dst: &mut [u8], at: usize, s: &[u8]) -> usize
@@ -32,15 +33,15 @@ fn put_text(dst: &mut [u8], at: usize, s: &[u8]) -> usize
     end
 }
 
-// Writes s as text and the byte that stands after it.
-pub fn put_shown(dst: &mut [u8], at: usize, s: &[u8], after: u8) -> usize
-    requires { ⌜ at + length (now s) + 2 ≤ length (now dst) ⌝ }
-    ensures { λ r. ⌜ Wrote (now (dst .entry)) at (shown (now (s .entry)) ++ (after ∷ [])) (now (dst .exit)) r ⌝ }
-    ensures short { λ r. ⌜ r ≤ at + length (now (s .entry)) + 2 ⌝ }
+// Writes bytes as text and the byte that stands after it.
+pub fn put_shown(dst: &mut [u8], at: usize, bytes: &[u8], after: u8) -> usize
+    requires { ⌜ at + length (now bytes) + 2 ≤ length (now dst) ⌝ }
+    ensures { λ r. ⌜ Wrote (now (dst .entry)) at (shown (now (bytes .entry)) ++ (after ∷ [])) (now (dst .exit)) r ⌝ }
+    ensures short { λ r. ⌜ r ≤ at + length (now (bytes .entry)) + 2 ⌝ }
 {
-    let kept = slot_tests::trimmed(s);
+    let kept = slot_tests::trimmed(bytes);
     if kept.len() == 0 {
-        let none = octets::put_byte(dst, at, 45);
+        let none = octets::put_byte(dst, at, b'-');
         return octets::put_byte(dst, none, after);
     }
     let end = put_text(dst, at, kept);

@@ -7,7 +7,8 @@ use Rattle.octets.specs.Strings.{sameBytes}
 use Rattle.rows.specs.Lists.{trimmed}
 use Rattle.console_verbs.specs.declared.Part.the-variants.{Clock, Identity, LoadRequest, Tag, Check}
 use Rattle.console_verbs.specs.declared.Verb.{Verb}
-use Rattle.console_verbs.specs.declared.Verb.the-variants.{Tables, Buffer, Set, Passed, Send, Raw, Slot, Register, Rows, Usable, Show, Unknown}
+use Rattle.console_verbs.specs.declared.Verb.the-variants.{Tables, Buffer, Set, Passed, Send, Raw, Slot, Register}
+use Rattle.console_verbs.specs.declared.Verb.the-variants.{Rows, Usable, Show, Unknown}
 use Rattle.console_verbs.specs.declared.Named.{Named}
 
 unfoldable pub verbs : List Named

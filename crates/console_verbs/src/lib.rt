@@ -59,14 +59,14 @@ fn verb_at(k: usize) -> Named
 }
 
 // The verb that a word names.
-pub fn verb_of(w: &[u8]) -> Verb
-    ensures { λ r. ⌜ r ≡ verbOf (now (w .entry)) ⌝ }
+pub fn verb_of(word: &[u8]) -> Verb
+    ensures { λ r. ⌜ r ≡ verbOf (now (word .entry)) ⌝ }
 {
     let mut k = 0;
     while k < 15 {
         let e = verb_at(k);
         let name = e.1;
-        if octets::same_bytes(w, slot_tests::trimmed(&name)) {
+        if octets::same_bytes(word, slot_tests::trimmed(&name)) {
             return e.0;
         }
         k += 1;

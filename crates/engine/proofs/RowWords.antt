@@ -21,7 +21,7 @@ use Rattle.forms.specs.declared.Form.the-variants.{Hex}
 use Rattle.attributes.specs.Table.{SGC, KRN, KSL, table}
 use Rattle.cards.specs.Entries.{orElse, entryBytes}
 use Rattle.incoming_cards.specs.Incoming.{isIncoming}
-use Rattle.stored_cards.specs.Stored.{storedCard, inRow}
+use Rattle.stored_cards.specs.Stored.{loadValues, storedCard, inRow}
 use Rattle.card_laws.proofs.Incoming.{sgc-back, krn-back, ksl-back}
 use Rattle.rows.specs.Lists.{trimmed}
 use Rattle.rows.specs.Slots.{stateNumber, isZeroSlot, hasState, kmcidOf, isNamed, isFilledSlot, isSlotSound, freeSlot, filledSlot, movedSlot, resetSlot}
@@ -195,7 +195,7 @@ without-reads s v = go (isVacant v) (sameBytes (attributeOf KSL v) s) refl refl
 -- the row that a load fills
 module _ (card kcv s : List ℕ) (h : isIncoming card ≡ true) (b : inForm (Hex 6) kcv ≡ true) (c : isIdentifier s ≡ true) where
   abbrev stored : List ℕ
-  stored = storedCard card (48 ∷ []) kcv s (48 ∷ [])
+  stored = storedCard card (loadValues kcv s)
 
   not-vacant : isVacant (filledRegister stored) ≡ false
   unfolding isVacant filledRegister areAll inRow storedCard table entryBytes
@@ -206,7 +206,7 @@ module _ (card kcv s : List ℕ) (h : isIncoming card ≡ true) (b : inForm (Hex
   loaded-reads =
       let f = filled-key (filledRegister stored) not-vacant in
       let z : Option (List ℕ) → List ℕ = λ o. orElse o [] in
-      let p = ap z (sgc-back card h (48 ∷ []) kcv s (48 ∷ []) refl b c refl) in
-      let q = ap z (krn-back card h (48 ∷ []) kcv s (48 ∷ []) refl b c refl) in
-      let r = ap z (ksl-back card h (48 ∷ []) kcv s (48 ∷ []) refl b c refl) in
+      let p = ap z (sgc-back card h (loadValues kcv s) refl b c refl) in
+      let q = ap z (krn-back card h (loadValues kcv s) refl b c refl) in
+      let r = ap z (ksl-back card h (loadValues kcv s) refl b c refl) in
       cc

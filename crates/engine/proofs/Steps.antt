@@ -22,6 +22,7 @@ use Rattle.frames.specs.Frames.{isWhole, headerOf}
 use Rattle.responses.specs.Responses.{replyTo, responseBytes, fieldsOf}
 use Rattle.responses.proofs.ResponseLaws.{reply-fields, answered-five}
 use Rattle.incoming_cards.specs.Incoming.{isIncoming}
+use Rattle.stored_cards.specs.Stored.{loadValues}
 use Rattle.records.specs.Records.{field}
 use Rattle.identities.specs.Identities.{colon, nameIn, fingerprintIn, identityInForm}
 use Rattle.key_records.specs.KeyRecords.{bar, publicKeyInForm, responseInForm, keyInForm}
@@ -222,11 +223,11 @@ module _ (x : Call) (vs : List Value) (y : Yes x KL vs) where
 
   pub is-text : areAll Text stored ≡ true
   unfolding loadedCard areAll isNumber isUnpadded
-  is-text = stored-text card is-card (48 ∷ []) (x .supplement .check) name (48 ∷ []) refl is-check is-name refl
+  is-text = stored-text card is-card (loadValues (x .supplement .check) name) refl is-check is-name refl
 
   pub is-short : length stored ≤ 256
   unfolding loadedCard areAll isNumber isUnpadded
-  is-short = stored-short card is-card (48 ∷ []) (x .supplement .check) name (48 ∷ []) refl is-check is-name refl
+  is-short = stored-short card is-card (loadValues (x .supplement .check) name) refl is-check is-name refl
 
   is-reading : registerIs (filledRegister stored) ≡ key (groupIn card) (revisionIn card) name (inRow stored)
   unfolding loadedCard

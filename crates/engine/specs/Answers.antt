@@ -8,7 +8,7 @@ use Rattle.fields.specs.Values.{Value, number, string}
 use Rattle.frames.specs.Frames.{headerOf}
 use Rattle.responses.specs.Responses.{Reply, replyBytes, replyTo}
 use Rattle.identities.specs.Identities.{fingerprintIn}
-use Rattle.stored_cards.specs.Stored.{storedCard}
+use Rattle.stored_cards.specs.Stored.{loadValues, storedCard}
 use Rattle.commands.specs.declared.Command.{Command}
 use Rattle.commands.specs.declared.Command.the-variants.{RS, KC, KR, KL, KF, KX, KD, GA, GL, KQ, Unknown}
 use Rattle.rows.specs.Slots.{freeSlot, filledSlot, movedSlot, resetSlot}
@@ -65,9 +65,9 @@ slotsOpened s fingerprint clock rows = set rows (placeIn rows (sessionPlace s ro
 unfoldable pub slotsWithout : List ℕ → List SlotRow → List SlotRow
 slotsWithout s rows = set rows (placeIn rows (slotPlace s rows)) freeSlot
 
--- the card that SM?KL stores: CLU and VND start at 0, KCV is the supplement's check value, KSL the slot's identifier
+-- the card that SM?KL stores of an incoming one, with the check value, in the slot s
 unfoldable pub loadedCard : List ℕ → List ℕ → List ℕ → List ℕ
-loadedCard card check s = storedCard card (48 ∷ []) check s (48 ∷ [])
+loadedCard card check s = storedCard card (loadValues check s)
 
 -- where SM?KL stores the key of a card
 unfoldable pub cardPlace : List ℕ → List RegisterRow → ℕ

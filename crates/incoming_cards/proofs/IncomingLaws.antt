@@ -13,13 +13,14 @@ use Rattle.text.specs.declared.Class.the-variants.{Value}
 use Rattle.forms.specs.Forms.{inForm}
 use Rattle.cards.specs.Entries.{nameOf, valueOf, between}
 use Rattle.attributes.specs.Table.{table, rows, name, presence, form}
-use Rattle.incoming_cards.specs.Incoming.{fits, fitsName, isCardFrom, isMet, hasRequired, isIncoming}
+use Rattle.incoming_cards.specs.Incoming.{fits, fitsName, isCard, isMet, hasRequired, isIncoming}
 use Rattle.attributes.specs.declared.Presence.the-variants.{Required, Optional, Engine}
 use Rattle.attributes.specs.declared.Attribute.{Attribute}
 use Rattle.cards.specs.declared.Found.{Found}
 use Rattle.cards.specs.declared.Found.the-variants.{At, Nothing}
 use Rattle.cards.proofs.EntryLaws.{value-here, name-room}
 use Rattle.attributes.proofs.TableLaws.{table-end}
+use Rattle.incoming_cards.proofs.Sequence.{isCardFrom}
 
 -- fits
 module _ (a : Attribute) (v : List ℕ) where
@@ -127,7 +128,7 @@ module _ (s : List ℕ) (z : Bool) (k : ℕ) (inv : hasRequired (drop k table) s
         sym y ∙ inv
 
 -- is_incoming
-module _ (s : List ℕ) (t : Bool) (p : t ≡ isCardFrom 0 s) where
+module _ (s : List ℕ) (t : Bool) (p : t ≡ isCard s) where
   pub no-card : not t ≡ true → false ≡ isIncoming s
   unfolding isIncoming
   no-card m = rw (← p, not-true t m)

@@ -1,22 +1,24 @@
 -- The incoming card (document 01, Cards).
 use Prim.Native.Nat.{ℕ}
 use mathlib.Core.Bool.{Bool, true, false, cond, _&&_}
-use mathlib.Core.List.{List, [], _∷_}
+use mathlib.Core.List.{List, [], _∷_, map}
 use mathlib.Core.Option.{Option, none, some}
 use lib.Dec.{eqb, leb, ltb}
 use lib.ListN.{length, drop}
-use Rattle.pieces.specs.Pieces.{pieces, isEnded}
+use Rattle.octets.specs.Texts.{all}
+use Rattle.pieces.specs.Pieces.{isEnded}
 use Rattle.text.specs.Classes.{areAll}
 use Rattle.text.specs.declared.Class.the-variants.{Value}
 use Rattle.forms.specs.Forms.{inForm}
 use Rattle.forms.specs.declared.Form.{Form}
-use Rattle.cards.specs.Entries.{nameOf, valueOf}
+use Rattle.cards.specs.Entries.{semicolon, entries, isNamed, nameOf, valueOf}
 use Rattle.attributes.specs.Table.{table, name, presence, form}
 use Rattle.attributes.specs.declared.Presence.{Presence}
 use Rattle.attributes.specs.declared.Presence.the-variants.{Required, Optional, Engine}
 use Rattle.attributes.specs.declared.Attribute.{Attribute}
 
--- v under a known name: in form, so its bytes are 20 to 7D but ; and | (forms, in-form-value); the engine's own are not judged, but not empty
+-- v under a known name: in form, so its bytes are 20 to 7D but ; and | (forms, in-form-value); the engine's own are not
+-- judged, but not empty
 abbrev pub fitsAs : Presence → Form → List ℕ → Bool
 fitsAs Required f v = inForm f v
 fitsAs Optional f v = inForm f v
@@ -25,19 +27,35 @@ fitsAs Engine f v = leb 1 (length v) && areAll Value v
 unfoldable pub fits : Attribute → List ℕ → Bool
 fits a v = fitsAs (presence a) (form a) v
 
--- v under the name n, which may be unknown
+-- v under the name n; under an unknown one it may be empty
 abbrev pub fitsName : List Attribute → ℕ → List ℕ → Bool
 fitsName [] n v = areAll Value v
 fitsName (a ∷ rs) n v = cond (eqb (name a) n) (fits a v) (fitsName rs n v)
 
--- the entries after the name `last`: names ascend, none twice, and values fit
-abbrev pub fitFrom : ℕ → List (List ℕ) → Bool
-fitFrom last [] = true
-fitFrom last (p ∷ ps) = ltb last (nameOf p) && (fitsName table (nameOf p) (drop 3 p) && fitFrom (nameOf p) ps)
+-- the value of an entry has the form of its name
+abbrev pub isFitting : List ℕ → Bool
+isFitting entry = fitsName table (nameOf entry) (drop 3 entry)
 
--- from here on: entries after the name `last`, and nothing else
-unfoldable pub isCardFrom : ℕ → List ℕ → Bool
-isCardFrom last card = isEnded 59 card && fitFrom last (pieces 59 card)
+-- every entry passes the test
+abbrev pub every : (List ℕ → Bool) → List (List ℕ) → Bool
+every f [] = true
+every f (p ∷ ps) = f p && every f ps
+
+-- numbers ascend, none twice
+abbrev pub ascend : List ℕ → Bool
+ascend [] = true
+ascend (m ∷ []) = true
+ascend (m ∷ n ∷ ns) = ltb m n && ascend (n ∷ ns)
+
+-- entries in form, and nothing else
+unfoldable pub isCard : List ℕ → Bool
+isCard card =
+    all (
+    isEnded semicolon card  -- each entry ends with a semicolon
+    ∷ every isNamed (entries card)  -- and starts with a name of three capitals
+    ∷ ascend (map nameOf (entries card))  -- names ascend, none twice
+    ∷ every isFitting (entries card)  -- each value has its name's form
+    ∷ [])
 
 abbrev pub isSome : Option (List ℕ) → Bool
 isSome none = false
@@ -59,4 +77,4 @@ hasRequired (a ∷ rs) card = isMet a card && hasRequired rs card
 
 -- an incoming card in form
 unfoldable pub isIncoming : List ℕ → Bool
-isIncoming card = isCardFrom 0 card && hasRequired table card
+isIncoming card = isCard card && hasRequired table card

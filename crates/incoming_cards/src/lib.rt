@@ -6,7 +6,7 @@ use cards::Found;
 use text::Class;
 ghost use mathlib.Core.Path.{_≡_};
 ghost use Rattle.attributes.specs.Table.{table};
-ghost use Rattle.incoming_cards.specs.Incoming.{fits, fitsName, isCardFrom, isMet, hasRequired, isIncoming};
+ghost use Rattle.incoming_cards.specs.Incoming.{fits, fitsName, isCard, isMet, hasRequired, isIncoming};
 
 // Whether v may stand under the attribute.
 fn fits(a: Attribute, v: &[u8]) -> bool
@@ -43,12 +43,12 @@ fn fits_name(name: u32, v: &[u8]) -> bool
 
 // Whether a card is entries that fit, names ascending, and nothing else.
 fn is_card(card: &[u8]) -> bool
-    ensures { λ r. ⌜ r ≡ isCardFrom 0 (now (card .entry)) ⌝ }
+    ensures { λ r. ⌜ r ≡ isCard (now (card .entry)) ⌝ }
 {
     let mut at = 0;
     let mut last = 0;
     while at < card.len() {
-        let e = pieces::piece_end(card, at, 59);
+        let e = pieces::piece_end(card, at, b';');
         if card.len() <= e {
             return false;
         }

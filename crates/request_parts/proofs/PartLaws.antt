@@ -9,7 +9,7 @@ use Rattle.fields.specs.Values.{valuesOf}
 use Rattle.cards.specs.Entries.{between}
 use Rattle.cards.specs.declared.Found.{Found}
 use Rattle.cards.specs.declared.Found.the-variants as found
-use Rattle.stored_cards.specs.Stored.{storedCard, inRow}
+use Rattle.stored_cards.specs.Stored.{loadValues, storedCard, inRow}
 use Rattle.commands.specs.declared.Command.the-variants.{KF, KL}
 use Rattle.payloads.specs.Payloads.{textIn, firstTextIn, firstBetween}
 use Rattle.payloads.specs.declared.TwoTexts.{TwoTexts}
@@ -37,15 +37,15 @@ row-made kmcid kmcid′ print print′ clock r e f p = rw (← e, ← f) p
 
 -- loaded_card: card and slot are what the code took out of the strings
 module _ (card u check slot v : List ℕ) (e : card ≡ u) (f : slot ≡ v) where
-  same-card : storedCard card (48 ∷ []) check slot (48 ∷ []) ≡ loadedCard u check v
+  same-card : storedCard card (loadValues check slot) ≡ loadedCard u check v
   unfolding loadedCard
   same-card = rw (e, f) refl
 
-  pub card-room : length (loadedCard u check v) ≤ 256 → length (storedCard card (48 ∷ []) check slot (48 ∷ [])) ≤ 256
+  pub card-room : length (loadedCard u check v) ≤ 256 → length (storedCard card (loadValues check slot)) ≤ 256
   card-room h = rw same-card h
 
-  pub card-made : (r : List ℕ) → r ≡ inRow (storedCard card (48 ∷ []) check slot (48 ∷ [])) → r ≡ inRow (loadedCard u check v)
+  pub card-made : (r : List ℕ) → r ≡ inRow (storedCard card (loadValues check slot)) → r ≡ inRow (loadedCard u check v)
   card-made r p = p ∙ ap inRow same-card
 
-  pub card-measured : (n : ℕ) → n ≡ length (storedCard card (48 ∷ []) check slot (48 ∷ [])) → n ≡ length (loadedCard u check v)
+  pub card-measured : (n : ℕ) → n ≡ length (storedCard card (loadValues check slot)) → n ≡ length (loadedCard u check v)
   card-measured n p = p ∙ ap length same-card

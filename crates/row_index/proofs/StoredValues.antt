@@ -7,16 +7,17 @@ use native.Mathlib.Omega.{arith}
 use lib.Dec.{T, eqb}
 use lib.ListN.{length, take, drop}
 use borrow.Author.Tests.{eq-eqb}
-use Rattle.octets.proofs.Flags.{and-second, and-left, and-right, no}
+use Rattle.octets.proofs.Flags.{and-left, and-right, no}
 use Rattle.pieces.specs.Pieces.{pieces}
 use Rattle.pieces.proofs.PieceLaws.{pieces-first}
 use Rattle.forms.specs.Forms.{inForm}
-use Rattle.cards.specs.Entries.{valueIn, valueOf, orElse}
+use Rattle.cards.specs.Entries.{entryLength, valueIn, valueOf, orElse}
 use Rattle.cards.proofs.EntryLaws.{a-name}
 use Rattle.attributes.specs.Table.{table, name, form}
 use Rattle.attributes.specs.declared.Attribute.{Attribute}
 use Rattle.attributes.proofs.TableLaws.{allRows, at-row, name-some}
-use Rattle.stored_cards.specs.Stored.{entryLength, isStoredFrom, isStored}
+use Rattle.stored_cards.specs.Stored.{isStored}
+use Rattle.stored_cards.proofs.Sequence.{isStoredFrom, stored-walk}
 use Rattle.card_laws.proofs.RoundTrip.{isOther, isDistinct, all-distinct}
 use Rattle.card_laws.proofs.StoredText.{entry-ends, entry-name, entry-form, stored-behind}
 
@@ -36,7 +37,6 @@ stored-from (x ∷ rs) d s e (suc k) a r q =
     (stored-from rs (and-right (allRows (isOther x) rs) (isDistinct rs) d) (drop (entryLength s + 1) s) (stored-behind x rs s e) k a r q)
 
 pub stored-in-form : (s : List ℕ) → isStored s ≡ true → (k : ℕ) (a : Attribute) (r : List Attribute) → drop k table ≡ a ∷ r → inForm (form a) (orElse (valueOf (name a) s) []) ≡ true
-unfolding isStored
 stored-in-form s e k a r q =
     rw (a-name s (name a) (λ z. omega (arith, name-some k a r q)))
-    at (stored-from table all-distinct s (and-second (eqb (length s) 256) (isStoredFrom table s) e) k a r q)
+    at (stored-from table all-distinct s (stored-walk s e) k a r q)

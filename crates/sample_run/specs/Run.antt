@@ -1,6 +1,7 @@
 -- A run of all seven commands over two centres, A and B: the key that A loaded is reloaded by B, stays where A is
 -- deleted, and goes with its register.
 use Prim.Native.Nat.{ℕ}
+use Prim.Native.Char.{code}
 use mathlib.Core.List.{List, [], _∷_, _++_}
 use lib.ListN.{replicate}
 use Rattle.octets.specs.Texts.{text}
@@ -34,7 +35,7 @@ supplement =
 
 -- a request with that supplement; its buffer is full of the character 0, so that what lies beyond an answer says 00
 abbrev pub hand : List ℕ → Handed
-hand request = record { request = request; supplement = supplement; buffer = replicate 1024 48; sequence = [] }
+hand request = record { request = request; supplement = supplement; buffer = replicate 1024 (code "0"); sequence = [] }
 
 abbrev pub startA : Handed
 startA =

@@ -11,9 +11,9 @@ use Rattle.fields.specs.Values.{typed, valuesOf}
 use Rattle.forms.specs.Forms.{isAlgorithm}
 use Rattle.attributes.specs.Table.{table}
 use Rattle.cards.specs.Entries.{nameOf, valueOf}
-use Rattle.incoming_cards.specs.Incoming.{fits, isCardFrom, isMet, isIncoming}
+use Rattle.incoming_cards.specs.Incoming.{fits, isCard, isMet, isIncoming}
 use Rattle.samples.specs.Samples.{AllHold, samples}
 
 pub all-hold : AllHold samples
-unfolding samples crcBit crcEight crcByte hexDigit sumDigits areAll isNumber isUnpadded isLeap daysIn isDate isTime isDateAndTime isTimestamp typed valuesOf isAlgorithm table nameOf valueOf fits isCardFrom isMet isIncoming
+unfolding samples crcBit crcEight crcByte hexDigit sumDigits areAll isNumber isUnpadded isLeap daysIn isDate isTime isDateAndTime isTimestamp typed valuesOf isAlgorithm table nameOf valueOf fits isCard isMet isIncoming
 all-hold = (refl, (refl, (refl, (refl, (refl, (refl, (refl, (refl, (refl, (refl, (refl, (refl, (refl, (refl, (refl, tt)))))))))))))))

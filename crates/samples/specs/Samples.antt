@@ -1,4 +1,5 @@
--- The sample values that document 01 marks with +, as one list under one statement about the definitions that the contracts cite.
+-- The sample values that document 01 marks with +, as one list under one statement about the definitions that the
+-- contracts cite.
 use Prim.Native.Nat.{ℕ}
 use mathlib.Core.Path.{_≡_}
 use mathlib.Core.Bool.{Bool, true, false}
@@ -10,7 +11,8 @@ use Rattle.fields.specs.Values.{Value, number, string, bad, valuesOf}
 use Rattle.timestamp.specs.Timestamps.{isTimestamp}
 use Rattle.incoming_cards.specs.Incoming.{isIncoming}
 
--- a sample: the checksum of a text; the one field that a payload is read as; whether a text is a timestamp; whether a card passes question 10
+-- a sample: the checksum of a text; the one field that a payload is read as; whether a text is a timestamp; whether a
+-- card passes question 10
 pub data Sample : Type 0 where
   sum : List ℕ → List ℕ → Sample
   reads : List ℕ → Value → Sample

@@ -20,6 +20,7 @@ use Rattle.forms.specs.Forms.{inForm}
 use Rattle.forms.specs.declared.Form.the-variants.{Hex}
 use Rattle.decimals.specs.Decimals.{isNumber, isUnpadded}
 use Rattle.incoming_cards.specs.Incoming.{isIncoming}
+use Rattle.stored_cards.specs.Stored.{loadValues}
 use Rattle.card_laws.proofs.Incoming.{stored-passes}
 use Rattle.rows.specs.Lists.{padded, trimmed}
 use Rattle.rows.specs.Slots.{stateNumber, isZeroSlot, hasState, kmcidOf, isFilledSlot, isSlotSound, filledSlot, movedSlot, resetSlot}
@@ -131,4 +132,4 @@ without-sound s r h = go (isUnder s r)
 pub loaded-sound : (card check s : List ℕ) → isIncoming card ≡ true → inForm (Hex 6) check ≡ true → isIdentifier s ≡ true → isRegisterSound (filledRegister (loadedCard card check s)) ≡ true
 unfolding isRegisterSound filledRegister loadedCard isNumber isUnpadded areAll
 loaded-sound card check s c k n =
-    or-second (isVacant (filledRegister (loadedCard card check s))) _ (stored-passes card c (48 ∷ []) check s (48 ∷ []) refl k n refl)
+    or-second (isVacant (filledRegister (loadedCard card check s))) _ (stored-passes card c (loadValues check s) refl k n refl)

@@ -1,54 +1,79 @@
--- The stored card, which has all fifteen attributes, and the test of a card as stored (document 01, Cards, "Questions in order" 3).
-use Prim.Native.Nat.{ℕ, _+_, _-_}
-use mathlib.Core.Bool.{Bool, cond, _&&_}
+-- The stored card, which has all fifteen attributes, and the test of a card as stored (document 01, Cards and
+-- question 3).
+use Prim.Native.Nat.{ℕ, _-_}
+use mathlib.Core.Bool.{Bool, true, false, cond, _&&_}
 use mathlib.Core.List.{List, [], _∷_, _++_}
-use lib.Dec.{eqb, ltb}
+use lib.Dec.{eqb}
 use lib.ListN.{length, take, drop, replicate}
-use Rattle.octets.specs.Texts.{text}
+use Rattle.octets.specs.Texts.{text, all}
 use Rattle.octets.specs.Strings.{run, isNot}
+use Rattle.pieces.specs.Pieces.{isEnded}
 use Rattle.text.specs.Classes.{areAll}
 use Rattle.text.specs.declared.Class.the-variants.{Zero}
 use Rattle.forms.specs.Forms.{inForm}
-use Rattle.cards.specs.Entries.{nameOf, valueOr, entryBytes}
+use Rattle.cards.specs.Entries.{semicolon, entries, nameOf, valueOr, entryBytes}
 use Rattle.attributes.specs.Table.{CLU, KCV, KSL, VND, table, name, form}
 use Rattle.attributes.specs.declared.Attribute.{Attribute}
 
--- the default card (001 example 6.3.5.4): CLMFFFFFFFF;IUT20380119T031407Z;SBMFFFF;ULM999999999;
+-- the default card (001 example 6.3.5.4)
 unfoldable pub defaultCard : List ℕ
-defaultCard =
-    text "CLMFFFFFFFF;IUT20380119T031407Z;SBMFFFF;ULM999999999;"
+defaultCard = text "CLMFFFFFFFF;IUT20380119T031407Z;SBMFFFF;ULM999999999;"
+
+-- the values that belong to the engine
+pub record EngineValues : Type 0 where
+  pub clu : List ℕ
+  pub kcv : List ℕ
+  pub ksl : List ℕ
+  pub vnd : List ℕ
+
+-- at a load: CLU and VND start at 0, KCV is the supplement's check value, KSL the slot's identifier
+abbrev pub loadValues : List ℕ → List ℕ → EngineValues
+loadValues check slot = record { clu = text "0"; kcv = check; ksl = slot; vnd = text "0" }
 
 -- the value that is stored under a name: the engine's own, else the incoming card's, else the default card's
-unfoldable pub storedValue : List ℕ → List ℕ → List ℕ → List ℕ → List ℕ → ℕ → List ℕ
-storedValue card clu kcv ksl vnd n =
-    cond (eqb n CLU) clu (cond (eqb n KCV) kcv (cond (eqb n KSL) ksl (cond (eqb n VND) vnd (valueOr n card defaultCard))))
+unfoldable pub storedValue : List ℕ → EngineValues → ℕ → List ℕ
+storedValue card own n =
+    cond (eqb n CLU) (own .clu)
+    (cond (eqb n KCV) (own .kcv)
+    (cond (eqb n KSL) (own .ksl)
+    (cond (eqb n VND) (own .vnd)
+    (valueOr n card defaultCard))))
 
 -- an entry for each attribute, with the value that f gives its name
 abbrev pub cardBytes : List Attribute → (ℕ → List ℕ) → List ℕ
 cardBytes [] f = []
 cardBytes (a ∷ rs) f = entryBytes (name a) (f (name a)) ++ cardBytes rs f
 
-unfoldable pub storedCard : List ℕ → List ℕ → List ℕ → List ℕ → List ℕ → List ℕ
-storedCard card clu kcv ksl vnd = cardBytes table (storedValue card clu kcv ksl vnd)
+-- the stored card has all fifteen, ascending
+unfoldable pub storedCard : List ℕ → EngineValues → List ℕ
+storedCard card own = cardBytes table (storedValue card own)
 
 -- in 256 bytes of space, zero after its end
 unfoldable pub inRow : List ℕ → List ℕ
 inRow card = card ++ replicate (256 - length card) 0
 
--- how long the first entry is, without its semicolon
-abbrev pub entryLength : List ℕ → ℕ
-entryLength s = run (isNot 59) s
-
--- an entry of the attribute, its value in form
+-- an entry of the attribute
 unfoldable pub isEntryOf : Attribute → List ℕ → Bool
-isEntryOf a p = eqb (nameOf p) (name a) && inForm (form a) (drop 3 p)
+isEntryOf a entry =
+    all (
+    eqb (nameOf entry) (name a)  -- of its name
+    ∷ inForm (form a) (drop 3 entry)  -- its value in form
+    ∷ [])
 
--- an entry for each attribute, then zeros
-abbrev pub isStoredFrom : List Attribute → List ℕ → Bool
-isStoredFrom [] s = areAll Zero s
-isStoredFrom (a ∷ rs) s =
-    ltb (entryLength s) (length s) && (isEntryOf a (take (entryLength s) s) && isStoredFrom rs (drop (entryLength s + 1) s))
+-- an entry for each attribute, in their sequence
+abbrev pub areEntriesOf : List Attribute → List (List ℕ) → Bool
+areEntriesOf [] [] = true
+areEntriesOf [] (p ∷ ps) = false
+areEntriesOf (a ∷ rs) [] = false
+areEntriesOf (a ∷ rs) (p ∷ ps) = isEntryOf a p && areEntriesOf rs ps
 
--- 256 bytes that are a card as stored
+-- a card as stored: n bytes stand before the first zero
 unfoldable pub isStored : List ℕ → Bool
-isStored s = eqb (length s) 256 && isStoredFrom table s
+isStored s =
+    let n = run (isNot 0) s in
+    all (
+    eqb (length s) 256  -- 256 bytes of space
+    ∷ isEnded semicolon (take n s)  -- each entry ends with a semicolon
+    ∷ areEntriesOf table (entries (take n s))  -- all fifteen, ascending
+    ∷ areAll Zero (drop n s)  -- zero after its end
+    ∷ [])

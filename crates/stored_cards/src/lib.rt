@@ -1,1 +1,2 @@
-// What a card as stored is (document 01, Cards and question 3): definitions alone. `card_writer` stores one, `card_places` tells whether one is.
+// What a card as stored is (document 01, Cards and question 3): definitions and their laws, no code. `card_writer`
+// writes one, `card_places` tests whether one is.

@@ -1,7 +1,7 @@
 -- The card that the program writes fits its row: its own values are in form.
 use mathlib.Core.Path.{_≡_, refl, sym, _∙_}
 use mathlib.Core.Bool.{Bool, false, not}
-use mathlib.Core.List.{List, [], _∷_}
+use mathlib.Core.List.{List}
 use Prim.Native.Nat.{ℕ, _≤_}
 use lib.ListN.{length}
 use borrow.Author.Tests.{not-false}
@@ -10,20 +10,13 @@ use Rattle.text.specs.Classes.{areAll, isAlphanumeric, isMark}
 use Rattle.text.specs.Identifiers.{isIdentifier}
 use Rattle.decimals.specs.Decimals.{isNumber, isUnpadded}
 use Rattle.incoming_cards.specs.Incoming.{isIncoming}
-use Rattle.stored_cards.specs.Stored.{storedCard}
+use Rattle.stored_cards.specs.Stored.{EngineValues, loadValues, storedCard}
 use Rattle.card_laws.proofs.Incoming.{stored-short}
 
--- "0", "92E101", "KMC1"
-abbrev nought : List ℕ
-nought = 48 ∷ []
-
-abbrev check : List ℕ
-check = text "92E101"
-
-abbrev slot : List ℕ
-slot = text "KMC1"
+abbrev own : EngineValues
+own = loadValues (text "92E101") (text "KMC1")
 
 module _ (s : List ℕ) (t : Bool) (p : t ≡ isIncoming s) (o : not t ≡ false) where
-  pub fits : length (storedCard s nought check slot nought) ≤ 256
+  pub fits : length (storedCard s own) ≤ 256
   unfolding isNumber isUnpadded areAll isIdentifier isAlphanumeric isMark
-  fits = stored-short s (sym p ∙ not-false t o) nought check slot nought refl refl refl refl
+  fits = stored-short s (sym p ∙ not-false t o) own refl refl refl refl

@@ -1,4 +1,5 @@
-// Reads vectors from standard input, a line each, and prints each with what it gives. A line is a kind, a space and a text; # starts a comment.
+// Reads vectors from standard input, a line each, and prints each with what it gives. A line is a kind, a space and a
+// text; # starts a comment.
 
 use commands::Command;
 use fields::Field;
@@ -27,9 +28,7 @@ fn say_yes(b: bool) {
 }
 
 fn say_sum(n: u16) {
-    let mut line = [10u8; 7];
-    line[0] = 32;
-    line[1] = 32;
+    let mut line = *b"  ....\n";
     hexadecimal::put_hex4(&mut line, 2, n);
     say(&line);
 }
@@ -84,7 +83,7 @@ fn is_timestamp(s: &[u8]) -> bool {
 
 // Whether the first of two timestamps, split by a space, is the later one.
 fn show_later(s: &[u8]) {
-    let e = pieces::piece_end(s, 0, 32);
+    let e = pieces::piece_end(s, 0, b' ');
     if s.len() <= e {
         say_yes(false);
         return;
@@ -266,7 +265,7 @@ fn show_message(is_request: bool, s: &[u8]) {
     }
     let mut m = [0u8; 1101];
     let n = octets::put(&mut m, 0, s);
-    let e = octets::put_byte(&mut m, n, 13);
+    let e = octets::put_byte(&mut m, n, b'\r');
     if is_request {
         show_request(&m[0..e]);
         return;
@@ -308,10 +307,10 @@ fn show_line(line: &[u8]) {
     if line.len() == 0 {
         return;
     }
-    if line[0] == 35 {
+    if line[0] == b'#' {
         return;
     }
-    let e = pieces::piece_end(line, 0, 32);
+    let e = pieces::piece_end(line, 0, b' ');
     if line.len() <= e {
         judge(line, b"");
         return;
@@ -322,7 +321,7 @@ fn show_line(line: &[u8]) {
 fn show_all(all: &[u8]) {
     let mut at = 0;
     while at < all.len() {
-        let e = pieces::piece_end(all, at, 10);
+        let e = pieces::piece_end(all, at, b'\n');
         show_line(&all[at..e]);
         at = e + 1;
     }

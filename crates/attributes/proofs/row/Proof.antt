@@ -11,7 +11,7 @@ use Rattle.attributes.proofs.row.Tie as tie
 last : tie.Need-returns-15
 unfolding table
 last c =
-    let k = c .before .args .k in
+    let k = c .before .args .index in
     let r = c .match .rest in
     let h : 14 ≤ k = past k 13 (past k 12 (past k 11 (past k 10 (past k 9 (past k 8 (past k 7 (past k 6 (past k 5 (past k 4 (past k 3 (past k 2 (past k 1 (past k 0 (omega arith) (r .0 .0 .0 .0 .0 .0 .0 .0 .0 .0 .0 .0 .0 .1)) (r .0 .0 .0 .0 .0 .0 .0 .0 .0 .0 .0 .0 .1)) (r .0 .0 .0 .0 .0 .0 .0 .0 .0 .0 .0 .1)) (r .0 .0 .0 .0 .0 .0 .0 .0 .0 .0 .1)) (r .0 .0 .0 .0 .0 .0 .0 .0 .0 .1)) (r .0 .0 .0 .0 .0 .0 .0 .0 .1)) (r .0 .0 .0 .0 .0 .0 .0 .1)) (r .0 .0 .0 .0 .0 .0 .1)) (r .0 .0 .0 .0 .0 .1)) (r .0 .0 .0 .0 .1)) (r .0 .0 .0 .1)) (r .0 .0 .1)) (r .0 .1)) (r .1) in
     row-arm k 14 (omega (arith, h, c .before .pre)) _ refl

@@ -4,7 +4,7 @@ use Prim.Native.Nat.{_+_, _-_, _≤_}
 use lib.ListN.{length, drop}
 use lib.Seq.{sets}
 use Rattle.attributes.specs.Table.{table, rows}
-use Rattle.stored_cards.specs.Stored.{cardBytes, storedCard, storedValue, defaultCard}
+use Rattle.stored_cards.specs.Stored.{EngineValues, cardBytes, storedCard, storedValue, defaultCard}
 use Rattle.attributes.proofs.TableLaws.{name-three}
 use Rattle.card_writer.proofs.WriteLaws.{all-written, entry-turn, all-counted, entry-room, count-turn}
 use borrow.Author.Needs.{needs}
@@ -12,7 +12,7 @@ use Rattle.card_writer.proofs.put_card.Statement.{statement}
 use Rattle.card_writer.proofs.put_card.Tie as tie
 
 abbrev Inv-loop : tie.InvT-loop
-Inv-loop dst₀ card clu kcv ksl vnd default at₀ k₀ dst at k = let f = storedValue card clu kcv ksl vnd in (k ≤ rows) × (length dst ≡ length dst₀) × (default ≡ defaultCard) × (at + length (cardBytes (drop k table) f) ≡ length (storedCard card clu kcv ksl vnd)) × (sets dst at (cardBytes (drop k table) f) ≡ sets dst₀ 0 (storedCard card clu kcv ksl vnd))
+Inv-loop dst₀ card clu kcv ksl vnd default at₀ k₀ dst at k = let own : EngineValues = record { clu = clu; kcv = kcv; ksl = ksl; vnd = vnd } in let f = storedValue card own in (k ≤ rows) × (length dst ≡ length dst₀) × (default ≡ defaultCard) × (at + length (cardBytes (drop k table) f) ≡ length (storedCard card own)) × (sets dst at (cardBytes (drop k table) f) ≡ sets dst₀ 0 (storedCard card own))
 
 abbrev μ-loop : tie.MeasureT-loop
 μ-loop dst₀ card clu kcv ksl vnd default at₀ k₀ dst at k = rows - k

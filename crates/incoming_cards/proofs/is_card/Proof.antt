@@ -1,15 +1,16 @@
 -- `incoming_cards::is_card` meets its contract. What is left of the card is a card after the last name.
-use mathlib.Core.Path.{_≡_, refl}
+use mathlib.Core.Path.{_≡_}
 use Prim.Native.Nat.{_-_, _≤_}
 use lib.ListN.{length, drop}
-use Rattle.incoming_cards.specs.Incoming.{isCardFrom}
+use Rattle.incoming_cards.specs.Incoming.{isCard}
+use Rattle.incoming_cards.proofs.Sequence.{isCardFrom, card-from}
 use Rattle.incoming_cards.proofs.IncomingLaws.{card-done, card-open, card-order, card-room, card-unfit, card-turn}
 use borrow.Author.Needs.{needs}
 use Rattle.incoming_cards.proofs.is_card.Statement.{statement}
 use Rattle.incoming_cards.proofs.is_card.Tie as tie
 
 abbrev Inv-loop : tie.InvT-loop
-Inv-loop card at₀ last₀ at last = (at ≤ length card) × (isCardFrom last (drop at card) ≡ isCardFrom 0 card)
+Inv-loop card at₀ last₀ at last = (at ≤ length card) × (isCardFrom last (drop at card) ≡ isCard card)
 
 abbrev μ-loop : tie.MeasureT-loop
 μ-loop card at₀ last₀ at last = length card - at
@@ -20,7 +21,7 @@ is-card-spec =
     (tie.spec
     Inv-loop
     μ-loop
-    (λ c. (search needs, refl))
+    (λ c. (search needs, search card-from))
     (λ c κs. search needs)
     (λ c. search card-open)
     (λ c. search needs)
