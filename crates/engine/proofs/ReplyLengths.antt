@@ -19,8 +19,7 @@ use Rattle.timestamp.proofs.Plain.{timestamp-length}
 use Rattle.fields.specs.Values.{Value, number, string, octets, fieldBytes, payloadBytes}
 use Rattle.field_writer.proofs.WriteLaws.{payload-append}
 use Rattle.field_writer.proofs.Lengths.{string-length, octets-length, number-short, payload-length}
-use Rattle.stored_cards.specs.Stored.{isStored, isStoredFrom}
-use Rattle.attributes.specs.Table.{table}
+use Rattle.stored_cards.specs.Stored.{isStored}
 use Rattle.rows.specs.Lists.{everyRow, trimmed, rowsThat, numbersFrom}
 use Rattle.rows.specs.Slots.{hasState, kmcidOf, isSlotSound}
 use Rattle.rows.specs.Registers.{isVacant, isUnder, isRegisterSound}
@@ -45,7 +44,7 @@ pub stored-length : (r : RegisterRow) → isRegisterSound r ≡ true → isVacan
 unfolding isRegisterSound trimmed isStored
 stored-length r h o =
     let e : isStored (r .card) ≡ true = rw o at h in
-    let n = eqb-true (length (r .card)) 256 (and-first (eqb (length (r .card)) 256) (isStoredFrom table (r .card)) e) in
+    let n = eqb-true (length (r .card)) 256 (and-first (eqb (length (r .card)) 256) _ e) in
     omega (arith, length-take (run (isNot 0) (r .card)) (r .card), n)
 
 -- SM?GL: names of 40 bytes at most
