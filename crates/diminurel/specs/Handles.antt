@@ -1,4 +1,5 @@
--- What `diminurel_handle` promises of a call, over plain lists: what its caller lends and hands in, and finds afterwards.
+-- What `diminurel_handle` promises of a call, over plain lists: what its caller lends and hands in, and finds
+-- afterwards.
 use Prim.Native.Nat.{ℕ, _≤_}
 use mathlib.Core.Path.{_≡_}
 use mathlib.Core.List.{List, []}

@@ -1,4 +1,5 @@
--- What an outcome says to the caller (document 01, Slots and registers, Questions in order): its number, and the slot state that a session command leaves.
+-- What an outcome says to the caller (document 01, Slots and registers, Questions in order): its number, and the slot
+-- state that a session command leaves.
 use Prim.Native.Nat.{ℕ}
 use mathlib.Core.Option.{Option, none, some}
 use Rattle.rows.specs.Slots.{stateNumber}

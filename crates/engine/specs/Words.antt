@@ -1,4 +1,5 @@
--- How rows, requests and answers are read for demand 3, and the list of calls that it speaks of (document 01, The words of demand 3).
+-- How rows, requests and answers are read for demand 3, and the list of calls that it speaks of (document 01, The words
+-- of demand 3).
 use Prim.Native.Nat.{ℕ}
 use mathlib.Core.Bool.{Bool, cond}
 use mathlib.Core.List.{List, map}
@@ -77,7 +78,8 @@ requestOf GL vs = other
 requestOf KQ vs = other
 requestOf Unknown vs = other
 
--- AN ANSWER: accepted with status 00; of a load the reply's register and its card, with zeros after it to the end of a row
+-- AN ANSWER: accepted with status 00; of a load the reply's register and its card, with zeros after it to the end of a
+-- row
 unfoldable pub isAccepted : List ℕ → Bool
 isAccepted a = sameBytes (statusOf a) accepted
 
@@ -98,8 +100,8 @@ itemFor e a = e ⇒ cond (isAccepted a) (saysYes e a) refused
 abbrev pub itemOf : List ℕ → List ℕ → Item
 itemOf request answer = itemFor (requestOf (commandIn request) (fieldsIn request)) answer
 
--- THE LIST: what is handed in at each call; each request with a supplement and a response buffer of its own. Beside them stands the sequence that the engine lists the slots in
--- if it is SM?GL: whatever it is at each call
+-- THE LIST: what is handed in at each call; each request with a supplement and a response buffer of its own. Beside
+-- them stands the sequence that the engine lists the slots in if it is SM?GL: whatever it is at each call
 pub record Handed : Type 0 where
   pub request : List ℕ
   pub supplement : Supplement

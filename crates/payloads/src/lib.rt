@@ -1,5 +1,6 @@
-// A request's payload as the fields of one command (document 01, "Questions in order", 8): none, one string, one number, or two strings, and nothing over.
-// The fields come from the payload's reader; one of another type than the command lists ends the reading.
+// A request's payload as the fields of one command (document 01, "Questions in order", 8): none, one string, one
+// number, or two strings, and nothing over. The fields come from the payload's reader; one of another type than the
+// command lists ends the reading.
 use cards::Found;
 use fields::Field;
 ghost use mathlib.Core.Path.{_≡_};
@@ -8,7 +9,8 @@ ghost use Rattle.fields.specs.Values.{valuesOf};
 ghost use Rattle.cards.specs.Entries.{between, Within};
 ghost use Rattle.commands.specs.declared.Command.the-variants.{RS};
 ghost use Rattle.engine.specs.Requests.{areFieldsOf};
-ghost use Rattle.payloads.specs.Payloads.{textIn, numberIn, firstTextIn, secondTextIn, countIn, firstBetween, secondBetween, TwoWithin};
+ghost use Rattle.payloads.specs.Payloads.{textIn, numberIn, firstTextIn, secondTextIn, countIn, firstBetween};
+ghost use Rattle.payloads.specs.Payloads.{secondBetween, TwoWithin};
 
 // A number that was read.
 pub enum Count {
