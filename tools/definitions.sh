@@ -6,7 +6,7 @@ set -eu -o pipefail
 export LC_ALL=C
 cd "$(dirname "$0")/.."
 # The contracts of the entry points; the statement of demand 3, and how calls and rows are read for it.
-roots=(crates/diminurel/src/lib.rt crates/history/specs/Demand3.antt crates/engine/specs/Words.antt)
+roots=(crates/diminurel/src/lib.rt crates/demands/specs/Demands.antt)
 
 # What a file uses of the repository's definitions: a line "crate folder Module" or "crate folder declared.Type" each.
 uses() {

@@ -45,8 +45,7 @@ pub record Handles (rows : Lent) (run : Run) (left : Lent) : Type 0 where
   pub registers-are : left .registers ≡ answerIn rows run .registers
 
 -- the same of the parameters of the function and what it returns
-abbrev pub Handled
-    : {X : Type 0}
+abbrev pub Handled : {X : Type 0}
     → Both (RefT (List SlotRow)) (RefT (List SlotRow))
     → Both (RefT (List RegisterRow)) (RefT (List RegisterRow))
     → Supplement
