@@ -3,12 +3,14 @@ use mathlib.Core.Path.{_≡_, refl, sym, ap, _∙_}
 use mathlib.Core.Bool.{Bool, true, false, cond, not, _&&_}
 use mathlib.Core.List.{List, [], _∷_, _++_}
 use Prim.Native.Nat.{ℕ, suc, _+_, _-_, _*_, _≤_, _<_}
+use mathlib.Core.Logic.{⊎-elim}
 use native.Mathlib.Omega.{arith}
 use lib.Dec.{eqb, ltb, leb}
 use lib.ListN.{length, getD, take, drop, length-drop, take-append-drop}
 use lib.Seq.{drop-drop, drop-cons, length-take-le, getD-take}
 use borrow.Author.Tests.{eq-eqb, lt-ltb, leb-true, ltb-true, eqb-true}
 use Rattle.octets.specs.Strings.{run, isNot, allOf}
+use Rattle.octets.specs.Texts.{text}
 use Rattle.octets.proofs.Flags.{nope, and-first, and-second, and-both}
 use Rattle.octets.proofs.StringLaws.{drop-take, all-run}
 use Rattle.text.specs.Classes.{isOf, areAll}
@@ -20,7 +22,7 @@ use Rattle.timestamp.proofs.Plain.{timestamp-length}
 use Rattle.forms.specs.Forms.{isAlgorithm, inForm}
 use Rattle.forms.specs.declared.Form.{Form}
 use Rattle.forms.specs.declared.Form.the-variants.{Timestamp, Algorithm, Number, Digits, Hex, HexSome, Name, Empty}
-use Rattle.forms.proofs.FormBounds.{in-form-plain, semicolon}
+use Rattle.forms.proofs.FormBounds.{algorithm-is, in-form-plain, semicolon}
 use Rattle.cards.specs.Entries.{nameOf}
 use Rattle.cards.proofs.EntryLaws.{name-length}
 use Rattle.stored_cards.specs.Stored.{entryLength}
@@ -33,8 +35,7 @@ number-some digits low high v e =
     leb-true 1 (length v) (and-first (leb 1 (length v)) (leb (length v) digits && (areAll Digit v && (isUnpadded v && (leb low (decimal v) && leb (decimal v) high)))) e)
 
 algorithm-two : (v : List ℕ) → isAlgorithm v ≡ true → length v ≡ 2
-unfolding isAlgorithm
-algorithm-two v e = eqb-true (length v) 2 (and-first (eqb (length v) 2) _ e)
+algorithm-two v e = ⊎-elim (λ (p : v ≡ text "02"). ap length p) (λ (p : v ≡ text "04"). ap length p) (algorithm-is v e)
 
 pub long-value : (f : Form) (n : ℕ) → isLong f n ≡ true → (v : List ℕ) → inForm f v ≡ true → length v ≡ n
 long-value Timestamp n w v e = timestamp-length v e ∙ sym (eqb-true n 16 w)
