@@ -24,7 +24,7 @@ use Rattle.incoming_cards.specs.Incoming.{isIncoming}
 use Rattle.stored_cards.specs.Stored.{loadValues, storedCard, inRow}
 use Rattle.card_laws.proofs.Incoming.{sgc-back, krn-back, ksl-back}
 use Rattle.rows.specs.Lists.{trimmed}
-use Rattle.rows.specs.Slots.{stateNumber, isZeroSlot, hasState, kmcidOf, isNamed, isFilledSlot, isSlotSound, freeSlot, filledSlot, movedSlot, resetSlot}
+use Rattle.rows.specs.Slots.{stateNumber, isZeroSlot, hasState, kmcidOf, isNamed, isFilledSlot, isSlotSound, isSameSlot, freeSlot, filledSlot, movedSlot, resetSlot}
 use Rattle.rows.specs.Registers.{isVacant, attributeOf, isKeyOf, isUnder, isRegisterSound, freeRegister, filledRegister, withoutSlot}
 use Rattle.rows.specs.declared.SlotRow.{SlotRow}
 use Rattle.rows.specs.declared.RegisterRow.{RegisterRow}
@@ -55,7 +55,7 @@ unfolding isIdentifier
 identifier-short k e =
     leb-true (length k) 40 (and-first (leb (length k) 40) (isAlphanumeric (getD k 0 0) && areAll Identifier k) (and-second (leb 1 (length k)) _ e))
 
-identifier-plain : (k : List ℕ) → isIdentifier k ≡ true → allOf (isNot 0) k ≡ true
+pub identifier-plain : (k : List ℕ) → isIdentifier k ≡ true → allOf (isNot 0) k ≡ true
 unfolding isIdentifier isAlphanumeric isMark
 identifier-plain k e =
     class-plain Identifier 0 k refl (and-second (isAlphanumeric (getD k 0 0)) (areAll Identifier k) (and-second (leb (length k) 40) _ (and-second (leb 1 (length k)) _ e)))
@@ -76,6 +76,11 @@ module _ (v : SlotRow) (s : List ℕ) (e : isNamed s v ≡ true) where
 
   pub named-reads : slotIs v ≡ used s (stateIn (v .state))
   named-reads = used-reads v named-state ∙ ap (λ (k : List ℕ). used k (stateIn (v .state))) named-name
+
+-- two rows keep one KMCID where both are named by it
+pub one-name : (s : List ℕ) (a b : SlotRow) → isNamed s a ≡ true → isNamed s b ≡ true → isSameSlot a b ≡ true
+unfolding isSameSlot
+one-name s a b p q = rw (named-state a s p, named-name a s p) q
 
 -- a row that is neither PENDING nor LOADING
 idle-stays : (v : SlotRow) → hasState Pending v ≡ false → hasState Loading v ≡ false → slotIs v ≡ stopped (slotIs v)
