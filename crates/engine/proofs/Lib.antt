@@ -11,3 +11,4 @@ pub mod ReplyLengths
 pub mod ReadsBack
 pub mod DecisionLaws
 pub mod SlotStates
+pub mod ReplyTypes
