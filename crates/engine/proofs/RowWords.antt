@@ -3,8 +3,7 @@ use mathlib.Core.Path.{_≡_, refl, sym, ap, _∙_}
 use mathlib.Core.Bool.{Bool, true, false, cond, not, _&&_, _||_}
 use mathlib.Core.List.{List, [], _∷_, map}
 use mathlib.Core.Option.{Option}
-use Prim.Native.Nat.{ℕ, _-_, _≤_}
-use native.Mathlib.Omega.{arith}
+use Prim.Native.Nat.{ℕ, _≤_}
 use lib.Dec.{eqb, leb}
 use lib.ListN.{length, getD, List·getD-map}
 use borrow.Author.Tests.{leb-true, eqb-true}
@@ -31,6 +30,7 @@ use Rattle.rows.specs.declared.RegisterRow.{RegisterRow}
 use Rattle.rows.specs.declared.SlotState.{SlotState}
 use Rattle.rows.specs.declared.SlotState.the-variants.{Free, Pending, Loading, Idle}
 use Rattle.rows.proofs.ListLaws.{trimmed-padded, trimmed-all}
+use Rattle.rows.proofs.FreeSlots.{free-is-zero}
 use Rattle.history.specs.Model.{State, free, used, vacant, key, dropKey, stopped}
 use Rattle.engine.specs.Questions.{groupIn, revisionIn}
 use Rattle.engine.specs.Words.{stateIn, slotIs, registerIs}
@@ -42,13 +42,6 @@ free-reads = refl
 
 pub slot-row : (slots : List SlotRow) (i : ℕ) → getD (map slotIs slots) i free ≡ slotIs (getD slots i freeSlot)
 slot-row slots i = rw free-reads at (List·getD-map slotIs slots i freeSlot)
-
-not-zero : (n : ℕ) → leb 1 n ≡ true → eqb n 0 ≡ false
-not-zero n e = go (eqb n 0) refl
-  where
-    go : (b : Bool) → eqb n 0 ≡ b → b ≡ false
-    go true q = let z = eqb-true n 0 q in let h = leb-true 1 n e in absurd (omega arith)
-    go false q = refl
 
 pub identifier-short : (k : List ℕ) → isIdentifier k ≡ true → length k ≤ 40
 unfolding isIdentifier
@@ -93,24 +86,21 @@ idle-stays v e f = go (isZeroSlot v)
 
 -- a sound row
 module _ (v : SlotRow) (h : isSlotSound v ≡ true) where
+  -- it reads as free by its state too
+  slot-by-state : slotIs v ≡ cond (hasState Free v) free (used (kmcidOf v) (stateIn (v .state)))
+  unfolding slotIs
+  slot-by-state = rw (free-is-zero v h) refl
+
   pub reads-named : (s : List ℕ) (a : State) → slotIs v ≡ used s a → isNamed s v ≡ true
-  unfolding isSlotSound slotIs isNamed
-  reads-named s a e = go (isZeroSlot v) h e
+  unfolding isNamed
+  reads-named s a e = go (hasState Free v) (sym slot-by-state ∙ e)
     where
-      go : (b : Bool) → (b || (leb 1 (v .state) && (leb (v .state) 3 && isFilledSlot v))) ≡ true → cond b free (used (kmcidOf v) (stateIn (v .state))) ≡ used s a
-          → (not (eqb (v .state) 0) && sameBytes (kmcidOf v) s) ≡ true
-      go true w q = nope (cc)
-      go false w q =
-          let z : kmcidOf v ≡ s = cc in
-          rw (not-zero (v .state) (and-first (leb 1 (v .state)) _ w), z) (same-self s)
+      go : (b : Bool) → cond b free (used (kmcidOf v) (stateIn (v .state))) ≡ used s a → (not b && sameBytes (kmcidOf v) s) ≡ true
+      go true q = nope (cc)
+      go false q = let z : kmcidOf v ≡ s = cc in rw z (same-self s)
 
   pub free-state-reads : hasState Free v ≡ true → slotIs v ≡ free
-  unfolding isSlotSound slotIs
-  free-state-reads e = go (isZeroSlot v) h
-    where
-      go : (b : Bool) → (b || (leb 1 (v .state) && (leb (v .state) 3 && isFilledSlot v))) ≡ true → cond b free (used (kmcidOf v) (stateIn (v .state))) ≡ free
-      go true w = refl
-      go false w = let z = not-zero (v .state) (and-first (leb 1 (v .state)) _ w) in nope (cc)
+  free-state-reads e = slot-by-state ∙ rw e refl
 
   pub sound-name : eqb (v .state) 0 ≡ false → isIdentifier (kmcidOf v) ≡ true
   unfolding isSlotSound isFilledSlot isZeroSlot

@@ -1,5 +1,5 @@
 -- The slot state that an accepted session command's answer carries is the state of its slot's row afterwards; and just these answers carry one.
-use mathlib.Core.Path.{_≡_, refl, ap, sym, _∙_}
+use mathlib.Core.Path.{_≡_, refl, ap}
 use mathlib.Core.Bool.{Bool, true, false, cond, not, _&&_, _||_}
 use mathlib.Core.List.{List, [], _∷_}
 use mathlib.Core.Option.{Option, none, some}
@@ -8,7 +8,6 @@ use native.Mathlib.Omega.{arith}
 use lib.Dec.{eqb}
 use lib.ListN.{length, getD, set}
 use lib.Seq.{getD-set-same}
-use Rattle.octets.specs.Strings.{sameBytes}
 use Rattle.octets.proofs.Flags.{nope, and-first, and-second, no, holds}
 use Rattle.octets.proofs.StringLaws.{same-self}
 use Rattle.text.specs.Identifiers.{isIdentifier}
@@ -17,7 +16,7 @@ use Rattle.identities.specs.Identities.{nameIn, fingerprintIn}
 use Rattle.key_records.specs.KeyRecords.{publicKeyInForm}
 use Rattle.commands.specs.declared.Command.{Command}
 use Rattle.commands.specs.declared.Command.the-variants.{RS, KC, KR, KL, KF, KX, KD, GA, GL, KQ, Unknown}
-use Rattle.rows.specs.Lists.{someRow, everyRow, distinctRows, firstFrom, trimmed}
+use Rattle.rows.specs.Lists.{someRow, everyRow, distinctRows, firstFrom}
 use Rattle.rows.specs.Slots.{stateNumber, hasState, kmcidOf, isNamed, isSlotSound, isSameSlot, freeSlot, filledSlot, movedSlot}
 use Rattle.rows.specs.Sound.{areSound}
 use Rattle.rows.specs.declared.SlotRow.{SlotRow}
@@ -25,13 +24,13 @@ use Rattle.rows.specs.declared.SlotState.{SlotState}
 use Rattle.rows.specs.declared.SlotState.the-variants.{Free, Pending, Loading, Idle}
 use Rattle.rows.proofs.ListLaws.{trimmed-padded, trimmed-all}
 use Rattle.engine.specs.Requests.{isAmong, commandIn, fieldsIn, recordIn, kmcIdentityIn, slotIn, firstText}
-use Rattle.engine.specs.Questions.{Call, slotPlace, freePlace, placeElse, placeIn, sessionPlace, slotNamed, questions, firstNo}
-use Rattle.engine.specs.Answers.{Answer, slotsMoved, slotsOpened, slotsWithout, answered, listed, effect, refused, answerTo, answerOf}
+use Rattle.engine.specs.Questions.{Call, slotPlace, freePlace, placeElse, sessionPlace, slotNamed, questions, firstNo}
+use Rattle.engine.specs.Answers.{slotsMoved, slotsOpened, slotsWithout, answered, listed, effect, refused, answerTo, answerOf}
 use Rattle.engine.specs.declared.Refusal.{Refusal}
 use Rattle.engine.specs.declared.Outcome.{Outcome}
 use Rattle.engine.specs.declared.Outcome.the-variants.{Accepted, Done, Refused}
 use Rattle.engine.proofs.RowWords.{identifier-short, identifier-plain, named-state, named-name, sound-name, one-name}
-use Rattle.engine.proofs.Places.{KnownAt, known-at, sound-at, free-unnamed, SpotAt, spot-at}
+use Rattle.engine.proofs.Places.{KnownAt, known-at, sound-at, free-unnamed, spot-at}
 use Rattle.engine.proofs.AnswerLaws.{isYes}
 use Rattle.engine.proofs.Steps.{Yes, yes-of, slots-sound, row-is, identity-name, key-identity}
 
