@@ -24,7 +24,7 @@ answer-is bytes buffer = take-at bytes (drop (length bytes) buffer) (length byte
 abbrev pub rowsOf : Lent → Tables
 rowsOf t = tablesOf (t .slots) (t .registers)
 
-steps : (t : Lent) (e : Handed) → Step (rowsOf t) (itemAt t e) (rowsOf (rowsAfter t e))
+pub steps : (t : Lent) (e : Handed) → Step (rowsOf t) (itemAt t e) (rowsOf (rowsAfter t e))
 steps t e = rw (answer-is (response (answerOf (callOf t e)) (e .sequence)) (e .buffer)) (does (callOf t e) refl (e .sequence))
 
 pub starts-empty : (a b : ℕ) → rowsOf (emptyRows a b) ≡ empty a b

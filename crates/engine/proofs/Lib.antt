@@ -10,3 +10,5 @@ pub mod Readings
 pub mod ReplyLengths
 pub mod ReadsBack
 pub mod DecisionLaws
+pub mod SlotStates
+pub mod ReplyTypes

@@ -3,8 +3,7 @@ use mathlib.Core.Path.{_≡_, refl, sym, ap, _∙_}
 use mathlib.Core.Bool.{Bool, true, false, cond, not, _&&_, _||_}
 use mathlib.Core.List.{List, [], _∷_, map}
 use mathlib.Core.Option.{Option}
-use Prim.Native.Nat.{ℕ, _-_, _≤_}
-use native.Mathlib.Omega.{arith}
+use Prim.Native.Nat.{ℕ, _≤_}
 use lib.Dec.{eqb, leb}
 use lib.ListN.{length, getD, List·getD-map}
 use borrow.Author.Tests.{leb-true, eqb-true}
@@ -24,13 +23,14 @@ use Rattle.incoming_cards.specs.Incoming.{isIncoming}
 use Rattle.stored_cards.specs.Stored.{loadValues, storedCard, inRow}
 use Rattle.card_laws.proofs.Incoming.{sgc-back, krn-back, ksl-back}
 use Rattle.rows.specs.Lists.{trimmed}
-use Rattle.rows.specs.Slots.{stateNumber, isZeroSlot, hasState, kmcidOf, isNamed, isFilledSlot, isSlotSound, freeSlot, filledSlot, movedSlot, resetSlot}
+use Rattle.rows.specs.Slots.{stateNumber, isZeroSlot, hasState, kmcidOf, isNamed, isFilledSlot, isSlotSound, isSameSlot, freeSlot, filledSlot, movedSlot, resetSlot}
 use Rattle.rows.specs.Registers.{isVacant, attributeOf, isKeyOf, isUnder, isRegisterSound, freeRegister, filledRegister, withoutSlot}
 use Rattle.rows.specs.declared.SlotRow.{SlotRow}
 use Rattle.rows.specs.declared.RegisterRow.{RegisterRow}
 use Rattle.rows.specs.declared.SlotState.{SlotState}
 use Rattle.rows.specs.declared.SlotState.the-variants.{Free, Pending, Loading, Idle}
 use Rattle.rows.proofs.ListLaws.{trimmed-padded, trimmed-all}
+use Rattle.rows.proofs.FreeSlots.{free-is-zero}
 use Rattle.history.specs.Model.{State, free, used, vacant, key, dropKey, stopped}
 use Rattle.engine.specs.Questions.{groupIn, revisionIn}
 use Rattle.engine.specs.Words.{stateIn, slotIs, registerIs}
@@ -43,19 +43,12 @@ free-reads = refl
 pub slot-row : (slots : List SlotRow) (i : ℕ) → getD (map slotIs slots) i free ≡ slotIs (getD slots i freeSlot)
 slot-row slots i = rw free-reads at (List·getD-map slotIs slots i freeSlot)
 
-not-zero : (n : ℕ) → leb 1 n ≡ true → eqb n 0 ≡ false
-not-zero n e = go (eqb n 0) refl
-  where
-    go : (b : Bool) → eqb n 0 ≡ b → b ≡ false
-    go true q = let z = eqb-true n 0 q in let h = leb-true 1 n e in absurd (omega arith)
-    go false q = refl
-
 pub identifier-short : (k : List ℕ) → isIdentifier k ≡ true → length k ≤ 40
 unfolding isIdentifier
 identifier-short k e =
     leb-true (length k) 40 (and-first (leb (length k) 40) (isAlphanumeric (getD k 0 0) && areAll Identifier k) (and-second (leb 1 (length k)) _ e))
 
-identifier-plain : (k : List ℕ) → isIdentifier k ≡ true → allOf (isNot 0) k ≡ true
+pub identifier-plain : (k : List ℕ) → isIdentifier k ≡ true → allOf (isNot 0) k ≡ true
 unfolding isIdentifier isAlphanumeric isMark
 identifier-plain k e =
     class-plain Identifier 0 k refl (and-second (isAlphanumeric (getD k 0 0)) (areAll Identifier k) (and-second (leb (length k) 40) _ (and-second (leb 1 (length k)) _ e)))
@@ -77,6 +70,11 @@ module _ (v : SlotRow) (s : List ℕ) (e : isNamed s v ≡ true) where
   pub named-reads : slotIs v ≡ used s (stateIn (v .state))
   named-reads = used-reads v named-state ∙ ap (λ (k : List ℕ). used k (stateIn (v .state))) named-name
 
+-- two rows keep one KMCID where both are named by it
+pub one-name : (s : List ℕ) (a b : SlotRow) → isNamed s a ≡ true → isNamed s b ≡ true → isSameSlot a b ≡ true
+unfolding isSameSlot
+one-name s a b p q = rw (named-state a s p, named-name a s p) q
+
 -- a row that is neither PENDING nor LOADING
 idle-stays : (v : SlotRow) → hasState Pending v ≡ false → hasState Loading v ≡ false → slotIs v ≡ stopped (slotIs v)
 unfolding slotIs stopped
@@ -88,24 +86,21 @@ idle-stays v e f = go (isZeroSlot v)
 
 -- a sound row
 module _ (v : SlotRow) (h : isSlotSound v ≡ true) where
+  -- it reads as free by its state too
+  slot-by-state : slotIs v ≡ cond (hasState Free v) free (used (kmcidOf v) (stateIn (v .state)))
+  unfolding slotIs
+  slot-by-state = rw (free-is-zero v h) refl
+
   pub reads-named : (s : List ℕ) (a : State) → slotIs v ≡ used s a → isNamed s v ≡ true
-  unfolding isSlotSound slotIs isNamed
-  reads-named s a e = go (isZeroSlot v) h e
+  unfolding isNamed
+  reads-named s a e = go (hasState Free v) (sym slot-by-state ∙ e)
     where
-      go : (b : Bool) → (b || (leb 1 (v .state) && (leb (v .state) 3 && isFilledSlot v))) ≡ true → cond b free (used (kmcidOf v) (stateIn (v .state))) ≡ used s a
-          → (not (eqb (v .state) 0) && sameBytes (kmcidOf v) s) ≡ true
-      go true w q = nope (cc)
-      go false w q =
-          let z : kmcidOf v ≡ s = cc in
-          rw (not-zero (v .state) (and-first (leb 1 (v .state)) _ w), z) (same-self s)
+      go : (b : Bool) → cond b free (used (kmcidOf v) (stateIn (v .state))) ≡ used s a → (not b && sameBytes (kmcidOf v) s) ≡ true
+      go true q = nope (cc)
+      go false q = let z : kmcidOf v ≡ s = cc in rw z (same-self s)
 
   pub free-state-reads : hasState Free v ≡ true → slotIs v ≡ free
-  unfolding isSlotSound slotIs
-  free-state-reads e = go (isZeroSlot v) h
-    where
-      go : (b : Bool) → (b || (leb 1 (v .state) && (leb (v .state) 3 && isFilledSlot v))) ≡ true → cond b free (used (kmcidOf v) (stateIn (v .state))) ≡ free
-      go true w = refl
-      go false w = let z = not-zero (v .state) (and-first (leb 1 (v .state)) _ w) in nope (cc)
+  free-state-reads e = slot-by-state ∙ rw e refl
 
   pub sound-name : eqb (v .state) 0 ≡ false → isIdentifier (kmcidOf v) ≡ true
   unfolding isSlotSound isFilledSlot isZeroSlot

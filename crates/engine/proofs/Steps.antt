@@ -1,6 +1,7 @@
 -- Each answer of the engine is one of the steps of which demand 3 is proved.
 use mathlib.Core.Path.{_≡_, refl, ap, _∙_}
-use mathlib.Core.Bool.{true, false, not, _&&_, _||_}
+use mathlib.Core.Logic.{_≢_}
+use mathlib.Core.Bool.{Bool, true, false, cond, not, _&&_, _||_}
 use mathlib.Core.List.{List, [], _∷_, map}
 use mathlib.Core.Option.{Option, none, some}
 use Prim.Native.Nat.{ℕ, zero, suc, _+_, _-_, _≤_}
@@ -41,7 +42,7 @@ use Rattle.rows.specs.declared.RegisterRow.{RegisterRow}
 use Rattle.rows.specs.declared.SlotState.{SlotState}
 use Rattle.rows.specs.declared.SlotState.the-variants.{Pending, Loading, Idle}
 use Rattle.rows.proofs.ListLaws.{map-set, map-sweep, every-true}
-use Rattle.history.specs.Model.{pending, loading, used, free, key, kl, loaded, Item, _⇒_, dropKey, dropSlot, stopped, reset}
+use Rattle.history.specs.Model.{pending, loading, idle, used, free, key, kl, loaded, Item, _⇒_, dropKey, dropSlot, stopped, reset}
 use Rattle.history.specs.Step.{Step, refuses, reads, starts, responds, loads, finishes, deletes, clears, resets}
 use Rattle.engine.specs.Requests.{commandIn, fieldsIn, isOneOfTen, registerIn, recordIn, kmcIdentityIn, slotIn, cardIn, firstText}
 use Rattle.engine.specs.Questions.{Call, asked, areCounts, isPlace, slotPlace, sessionPlace, storePlace, slotNamed, placeIn, isFilled, groupIn, revisionIn, questions, firstNo}
@@ -166,11 +167,21 @@ does-kr x vs y names =
     let e : getD (map slotIs (x .slots)) (k .place) free ≡ used (slotIn KR vs) pending = row-reads x KR vs y k ∙ rw w refl in
     rw (says-yes x KR vs y, slots-moved x KR vs y k Loading refl) (responds (slotIn KR vs) (k .place) e)
 
+-- a state that is PENDING or LOADING is not IDLE
+not-idle : (n : ℕ) → (eqb n 1 || eqb n 2) ≡ true → stateIn n ≢ idle
+not-idle n h e = go (eqb n 1) (eqb n 2) h e
+  where
+    go : (p q : Bool) → (p || q) ≡ true → cond p pending (cond q loading idle) ≡ idle → ⊥
+    go true q w z = nope (cc)
+    go false true w z = nope (cc)
+    go false false w z = nope (cc)
+
 does-kf : (x : Call) (vs : List Value) → Yes x KF vs → Does x KF vs (effect x KF vs (recordIn KF vs) (slotIn KF vs))
 unfolding answered
 does-kf x vs y names =
     let k = known-at (x .slots) (slotIn KF vs) (y .known) in
-    rw (says-yes x KF vs y, slots-moved x KF vs y k Idle refl) (finishes (slotIn KF vs) (k .place) _ (row-reads x KF vs y k))
+    let w : (hasState Pending (v x KF vs y k) || hasState Loading (v x KF vs y k)) ≡ true = rw (row-is x KF vs y k) at (y .state) in
+    rw (says-yes x KF vs y, slots-moved x KF vs y k Idle refl) (finishes (slotIn KF vs) (k .place) _ (not-idle (v x KF vs y k .state) w) (row-reads x KF vs y k))
 
 -- what the registers say after SM?KX, and the slots after GL?RS
 kx-registers : (x : Call) (vs : List Value) → map registerIs (effect x KX vs (recordIn KX vs) (slotIn KX vs) .registers) ≡ map (dropKey (slotIn KX vs)) (map registerIs (x .registers))

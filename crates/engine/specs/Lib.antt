@@ -1,4 +1,5 @@
 pub mod Refusals
+pub mod FieldTypes
 pub mod Requests
 pub mod Questions
 pub mod Answers

@@ -1,7 +1,8 @@
 -- What a request says: its command, the fields of its payload, and what they name (document 01, Slots and registers; 001 clauses 6.2.7 and 6.3).
 use Prim.Native.Nat.{ℕ}
-use mathlib.Core.Bool.{Bool, true, false, cond, _&&_, _||_}
+use mathlib.Core.Bool.{Bool, false, cond, _||_}
 use mathlib.Core.List.{List, [], _∷_}
+use mathlib.Core.Option.{none}
 use lib.Dec.{eqb}
 use lib.ListN.{getD}
 use Rattle.fields.specs.Values.{Value, number, string, date, octets, bad, valuesOf}
@@ -12,6 +13,7 @@ use Rattle.commands.specs.Commands.{commandOf}
 use Rattle.commands.specs.declared.Command.{Command}
 use Rattle.commands.specs.declared.Command.the-variants.{RS, KC, KR, KL, KF, KX, KD, GA, GL, KQ, Unknown}
 use Rattle.frames.specs.Frames.{headerOf, payloadOf}
+use Rattle.engine.specs.FieldTypes.{messages, areOfTypes}
 
 abbrev commandNumber : Command → ℕ
 commandNumber RS = 0
@@ -41,38 +43,9 @@ fieldsIn request = valuesOf (payloadOf request)
 abbrev pub isOneOfTen : Command → Bool
 isOneOfTen c = isAmong c (RS ∷ KC ∷ KR ∷ KL ∷ KF ∷ KX ∷ KD ∷ GA ∷ GL ∷ KQ ∷ [])
 
--- types of fields
-abbrev isText : Value → Bool
-isText (number n) = false
-isText (string s) = true
-isText (date d) = false
-isText (octets h) = false
-isText bad = false
-
-abbrev isCount : Value → Bool
-isCount (number n) = true
-isCount (string s) = false
-isCount (date d) = false
-isCount (octets h) = false
-isCount bad = false
-
-abbrev none : List Value → Bool
-none [] = true
-none (v ∷ vs) = false
-
-abbrev one : (Value → Bool) → List Value → Bool
-one f [] = false
-one f (v ∷ vs) = f v && none vs
-
-abbrev two : (Value → Bool) → List Value → Bool
-two f [] = false
-two f (v ∷ vs) = f v && one f vs
-
--- the fields of a payload are those of the command, nothing over: RS and GL have none, KD and GA a number, KL two strings, the others one
+-- the fields of a payload are of the command's types, nothing over
 unfoldable pub areFieldsOf : Command → List Value → Bool
-areFieldsOf c vs =
-    cond (isAmong c (RS ∷ GL ∷ [])) (none vs)
-    (cond (isAmong c (KD ∷ GA ∷ [])) (one isCount vs) (cond (isAmong c (KL ∷ [])) (two isText vs) (one isText vs)))
+areFieldsOf c vs = areOfTypes (messages c .request) none vs
 
 abbrev textOf : Value → List ℕ
 textOf (number n) = []

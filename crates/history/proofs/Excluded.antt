@@ -1,4 +1,4 @@
--- What the statement of demand 3 refuses by itself, whatever engine made it: lists and rows of which it is false.
+-- What the statement of demand 3 refuses by itself, whatever engine made it: lists and rows of which it is false; and what no step does.
 use mathlib.Core.Path.{_≡_, refl, sym, subst}
 use mathlib.Core.Logic.{_⊎_, inl, inr, _≢_}
 use mathlib.Core.List.{List, [], _∷_, _++_, append-assoc}
@@ -9,7 +9,9 @@ use Rattle.history.proofs.Latch.{since-last, since-none}
 use Rattle.history.proofs.Laws.{Clears}
 use Rattle.history.proofs.Theorem.{live-since}
 use Rattle.history.specs.History.{Since}
-use Rattle.history.specs.Model.{Tables, kc, kr, kl, kf, kx, kd, rs, done, loaded, Item, _⇒_, key, vacant, Register, used, loading, idle, empty, registerRow}
+use Rattle.history.specs.Model.{Tables, kc, kr, kl, kf, kx, kd, rs, done, loaded, Item, _⇒_, key, vacant, Register, used, loading, idle, empty, slotRow, registerRow}
+use Rattle.history.specs.Step.{Step, finishes}
+use Rattle.history.proofs.Sound.{Sound}
 use Rattle.history.specs.Demand3.{LoadInto, Load, Deletion, Opens, Ends, closed, restarted, deleted, was-reset, InSession, StandsIn, Demand3, Live, HasLive}
 
 -- a supply group g and a revision r, loaded into register n under slot s; c is what its row is to be
@@ -130,3 +132,7 @@ module _ (s g r c : List ℕ) where
   -- an engine that loads keys on SM?KR
   pub loaded-by-kr : Demand3 (opened ∷ []) standing → ⊥
   loaded-by-kr d = stands-after [] opened (λ l. let w = l .is in nope (cc)) (inr refl) d
+
+-- no step is an accepted SM?KF of a slot that is IDLE
+pub closed-twice : (s : List ℕ) (i : ℕ) (t t′ : Tables) → Sound t → slotRow t i ≡ used s idle → Step t (kf s ⇒ done) t′ → ⊥
+closed-twice s i t t′ σ e (finishes u j a o q) = let z : j ≡ i = σ .names j i s a idle q e in o (cc)

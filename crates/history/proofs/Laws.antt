@@ -79,7 +79,7 @@ key-from t ι t′ (loads u g′ r′ d k i f b p) g r (suc j) s c h = go (store
     go : Stored vacant (t .registers) i (key g′ r′ u d) j → LoadInto g r (suc j) s c (kl u g′ r′ ⇒ loaded (suc i) d) ⊎ (StandsIn t g r (suc j) s c × (¬ LoadInto g r (suc j) s c (kl u g′ r′ ⇒ loaded (suc i) d)))
     go (new x y) = inl cc
     go (old x y) = inr (cc, λ l. let z : suc i ≡ suc j = cc in x (omega arith))
-key-from t ι t′ (finishes u i a q) g r n s c h = inr (h, λ l. nope (cc))
+key-from t ι t′ (finishes u i a o q) g r n s c h = inr (h, λ l. nope (cc))
 key-from t ι t′ (deletes u i a q) g r zero s c h = nope (cc)
 key-from t ι t′ (deletes u i a q) g r (suc j) s c h = inr (drop-key u (getD (t .registers) j vacant) g r s c (rw drop-row at h) .0, λ l. nope (cc))
 key-from t ι t′ (clears i g′ r′ u d q) g r zero s c h = nope (cc)
@@ -116,7 +116,7 @@ key-keeps t ι t′ (loads u g′ r′ d k′ i f b p) g r (suc j) s c h k = go 
         absurd (k (inl (record { number = suc i; slot = u; card = d; is = cc })))
     go (new x y) (spare q m) = cc
     go (old x y) p = cc
-key-keeps t ι t′ (finishes u i a q) g r n s c h k = h
+key-keeps t ι t′ (finishes u i a o q) g r n s c h k = h
 key-keeps t ι t′ (deletes u i a q) g r zero s c h k = h
 key-keeps t ι t′ (deletes u i a q) g r (suc j) s c h k =
     drop-row u (t .registers) j ∙ ap (dropKey u) h ∙ drop-kept u g r s c (λ z. k (inr (inl (cc))))
@@ -142,7 +142,7 @@ kc-ends : (t t′ : Tables) (s : List ℕ) → Step t (kc s ⇒ done) t′ → S
 kc-ends t t′ s (starts s′ i b p) σ h = closes t σ s i b p _ (λ q. nope (cc)) h
 
 kf-ends : (t t′ : Tables) (s : List ℕ) → Step t (kf s ⇒ done) t′ → Sound t → ¬ Open s t′
-kf-ends t t′ s (finishes s′ i a q) σ h = closes t σ s i (used-within (t .slots) i s a q) (own a q) _ (λ w. nope (cc)) h
+kf-ends t t′ s (finishes s′ i a o q) σ h = closes t σ s i (used-within (t .slots) i s a q) (own a q) _ (λ w. nope (cc)) h
 
 kx-ends : (t t′ : Tables) (s : List ℕ) → Step t (kx s ⇒ done) t′ → Sound t → ¬ Open s t′
 unfolding dropSlot
@@ -182,7 +182,7 @@ open-from t ι t′ (responds u i q) s h = go (opened-by t s i _ (used-within (t
     go (inl e) = inl (cc)
     go (inr o) = inr o
 open-from t ι t′ (loads u g r c k i f b p) s h = inr (record { row = h .row; is = h .is })
-open-from t ι t′ (finishes u i a q) s h = go (opened-by t s i _ (used-within (t .slots) i u a q) h)
+open-from t ι t′ (finishes u i a o q) s h = go (opened-by t s i _ (used-within (t .slots) i u a q) h)
   where
     go : (used u idle ≡ used s loading) ⊎ Open s t → Opens s (kf u ⇒ done) ⊎ Open s t
     go (inl e) = nope (cc)

@@ -165,7 +165,7 @@ sound-step t ι t′ (loads s g r c k i f h p) σ = sound-store t σ i _ h (λ g
   where
     under : (u : List ℕ) → s ≡ u → Known (t .slots) u
     under u z = subst (Known (t .slots)) z (known-of (t .slots) k s _ f)
-sound-step t ι t′ (finishes s i a q) σ = sound-put t σ s i _ (used-within (t .slots) i s _ q) (own _ q)
+sound-step t ι t′ (finishes s i a o q) σ = sound-put t σ s i _ (used-within (t .slots) i s _ q) (own _ q)
 sound-step t ι t′ (deletes s i a q) σ = record {
   names = names-free (t .slots) (σ .names) i (used-within (t .slots) i s a q);
   keys = keys-drop s (t .registers) (σ .keys);

@@ -44,17 +44,22 @@ pub data Spot (t : Tables) (s : List ℕ) (i : ℕ) : Type 0 where
 -- the row where a key of g and r goes: the one that holds it, or a free one where none does
 pub data Home (t : Tables) (g r : List ℕ) (i : ℕ) : Type 0 where
   held : (s c : List ℕ) → getD (t .registers) i vacant ≡ key g r s c → Home t g r i
-  spare : getD (t .registers) i vacant ≡ vacant → ((j : ℕ) (s c : List ℕ) → getD (t .registers) j vacant ≢ key g r s c) → Home t g r i
+  spare : getD (t .registers) i vacant ≡ vacant
+      → ((j : ℕ) (s c : List ℕ) → getD (t .registers) j vacant ≢ key g r s c) → Home t g r i
 
 -- the tables before an item of the list, the item, and the tables after it
 pub data Step (t : Tables) : Item → Tables → Type 0 where
   refuses : (e : Request) → Step t (e ⇒ refused) t
   reads : Step t (other ⇒ done) t
-  starts : (s : List ℕ) (i : ℕ) → i < length (t .slots) → Spot t s i → Step t (kc s ⇒ done) (putSlot t i (used s pending))
-  responds : (s : List ℕ) (i : ℕ) → slotRow t i ≡ used s pending → Step t (kr s ⇒ done) (putSlot t i (used s loading))
+  starts : (s : List ℕ) (i : ℕ) → i < length (t .slots) → Spot t s i
+      → Step t (kc s ⇒ done) (putSlot t i (used s pending))
+  responds : (s : List ℕ) (i : ℕ) → slotRow t i ≡ used s pending
+      → Step t (kr s ⇒ done) (putSlot t i (used s loading))
   loads : (s g r c : List ℕ) (k i : ℕ) → slotRow t k ≡ used s loading → i < length (t .registers) → Home t g r i
       → Step t (kl s g r ⇒ loaded (suc i) c) (putRegister t i (key g r s c))
-  finishes : (s : List ℕ) (i : ℕ) (a : State) → slotRow t i ≡ used s a → Step t (kf s ⇒ done) (putSlot t i (used s idle))
+  finishes : (s : List ℕ) (i : ℕ) (a : State) → a ≢ idle → slotRow t i ≡ used s a
+      → Step t (kf s ⇒ done) (putSlot t i (used s idle))
   deletes : (s : List ℕ) (i : ℕ) (a : State) → slotRow t i ≡ used s a → Step t (kx s ⇒ done) (dropSlot t s i)
-  clears : (i : ℕ) (g r s c : List ℕ) → getD (t .registers) i vacant ≡ key g r s c → Step t (kd (suc i) ⇒ done) (putRegister t i vacant)
+  clears : (i : ℕ) (g r s c : List ℕ) → getD (t .registers) i vacant ≡ key g r s c
+      → Step t (kd (suc i) ⇒ done) (putRegister t i vacant)
   resets : Step t (rs ⇒ done) (reset t)

@@ -1,5 +1,5 @@
--- The response of 001 clause 5.3.2, SM!DI00P94001234~PSTS65V00~749F and a carriage return, says what the clause prints: computed.
-use mathlib.Core.Path.{refl}
+-- The response of 001 clause 5.3.2, SM!DI00P94001234~PSTS65V00~749F and a carriage return, is what the reply to SM?DI is written as, and says it: computed.
+use mathlib.Core.Path.{_≡_, refl}
 use mathlib.Core.List.{List, [], _∷_}
 use Prim.Native.Nat.{ℕ}
 use Rattle.octets.specs.Texts.{text}
@@ -7,14 +7,23 @@ use Rattle.crc.specs.Crc.{crcBit, crcEight, crcByte}
 use Rattle.hexadecimal.specs.Hex.{hexDigit}
 use Rattle.checksum.specs.Checksum.{sumDigits, endsInSum}
 use Rattle.text.specs.Classes.{areAll}
-use Rattle.fields.specs.Values.{string, typed, valuesOf}
-use Rattle.frames.specs.Frames.{endsInReturn, isWhole, isChecked, textOf, headerOf}
-use Rattle.responses.specs.Responses.{statusOf, fieldsOf, Says}
+use Rattle.fields.specs.Values.{string, typed, valuesOf, contentBytes}
+use Rattle.frames.specs.Frames.{endsInReturn, isWhole, isChecked, textOf, headerOf, ending, framed, answered}
+use Rattle.responses.specs.Responses.{Reply, replyBytes, replyTo, statusOf, fieldsOf, Says}
 
 abbrev response : List ℕ
 response = text "SM!DI00P94001234~PSTS65V00~749F\r"
 
 -- header SM!DI, status 00, fields 94001234 and STS65V00
-pub example : Says response (record { header = text "SM!DI"; status = text "00"; fields = string (text "94001234") ∷ string (text "STS65V00") ∷ [] })
-unfolding crcBit crcEight crcByte hexDigit sumDigits endsInSum areAll typed valuesOf endsInReturn isWhole isChecked textOf headerOf statusOf fieldsOf
+abbrev reply : Reply
+reply = replyTo (text "SM?DI") (text "00") (string (text "94001234") ∷ string (text "STS65V00") ∷ [])
+
+-- it is written as printed,
+pub written : replyBytes reply ≡ response
+unfolding crcBit crcEight crcByte hexDigit sumDigits contentBytes ending framed answered replyBytes
+written = refl
+
+-- and reads as just this reply
+pub example : Says response reply
+unfolding crcBit crcEight crcByte hexDigit sumDigits endsInSum areAll typed valuesOf endsInReturn isWhole isChecked textOf headerOf answered statusOf fieldsOf
 example = record { whole = refl; checked = refl; header-is = refl; status-is = refl; fields-are = refl }

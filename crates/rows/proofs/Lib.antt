@@ -3,3 +3,4 @@ pub mod LoopLaws
 pub mod PlaceCounts
 pub mod ReportLaws
 pub mod WriteLoops
+pub mod FreeSlots

@@ -23,10 +23,11 @@ stateNumber Pending = 1
 stateNumber Loading = 2
 stateNumber Idle = 3
 
--- every byte of the row is zero
+-- every byte of the row is zero. Of sound rows these are the rows in state Free (`free-is-zero`, proofs/FreeSlots.antt)
 unfoldable pub isZeroSlot : SlotRow → Bool
 isZeroSlot r = eqb (r .state) 0 && (areAll Zero (r .kmcid) && (areAll Zero (r .fingerprint) && areAll Zero (r .tvp)))
 
+-- Free: of sound rows, those that are zero (`free-is-zero`)
 abbrev pub hasState : SlotState → SlotRow → Bool
 hasState a r = eqb (r .state) (stateNumber a)
 

@@ -19,15 +19,11 @@ use Rattle.rows.proofs.ListLaws.{every-at}
 use Rattle.history.specs.Model.{free, used, vacant, key}
 use Rattle.history.proofs.Sound.{Names, Keys, Known, Sound}
 use Rattle.engine.specs.Words.{stateIn, slotIs, registerIs, tablesOf}
-use Rattle.engine.proofs.RowWords.{slot-row, named-state, named-name, named-reads, reads-named, filled-key, free-vacant, register-row, key-reads, reads-key}
+use Rattle.engine.proofs.RowWords.{slot-row, named-reads, reads-named, one-name, filled-key, free-vacant, register-row, key-reads, reads-key}
 use Rattle.engine.proofs.Places.{sound-at, free-unnamed, free-keyless}
 use Rattle.stays_sound.proofs.RowTests.{every-to, some-from, some-to, Shared, distinct-from, distinct-to}
 
--- SLOTS: two rows keep one KMCID where both are named by it
-one-name : (s : List ℕ) (a b : SlotRow) → isNamed s a ≡ true → isNamed s b ≡ true → isSameSlot a b ≡ true
-unfolding isSameSlot
-one-name s a b p q = rw (named-state a s p, named-name a s p) q
-
+-- SLOTS: two rows that keep one KMCID are both named by it
 of-one-name : (a b : SlotRow) → isSameSlot a b ≡ true → Shared isNamed a b
 unfolding isSameSlot isNamed
 of-one-name a b e = record {

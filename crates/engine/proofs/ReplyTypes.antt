@@ -1,0 +1,100 @@
+-- The fields of every accepted request and of its reply are of the command's types; a refusal's reply has no field or one string.
+use mathlib.Core.Path.{_≡_, refl}
+use mathlib.Core.Bool.{Bool, true, false, _||_}
+use mathlib.Core.List.{List, [], _∷_, map}
+use mathlib.Core.Option.{Option, none, some}
+use Prim.Native.Nat.{ℕ}
+use Rattle.octets.specs.Texts.{text}
+use Rattle.octets.proofs.Flags.{nope}
+use Rattle.fields.specs.Values.{Value, number, string}
+use Rattle.responses.specs.Responses.{Reply}
+use Rattle.commands.specs.declared.Command.{Command}
+use Rattle.commands.specs.declared.Command.the-variants.{RS, KC, KR, KL, KF, KX, KD, GA, GL, KQ, Unknown}
+use Rattle.rows.specs.Slots.{kmcidOf}
+use Rattle.rows.specs.Reports.{slotFields, registersUnder, queryFields}
+use Rattle.engine.specs.FieldTypes.{Number, String, areOfTypes, messages}
+use Rattle.engine.specs.Refusals.{Header, general, own, RefusalEntry, refusal}
+use Rattle.engine.specs.Requests.{areFieldsOf, commandIn, fieldsIn, recordIn, slotIn}
+use Rattle.engine.specs.Questions.{Call, slotNamed, questions, firstNo}
+use Rattle.engine.specs.Answers.{replyUnder, answered, listed, effect, refused, answerTo, answerOf}
+use Rattle.engine.specs.declared.Refusal.{Refusal}
+use Rattle.engine.specs.declared.Outcome.the-variants.{Refused}
+use Rattle.engine.proofs.QuestionLaws.{allRefusals, no-listed}
+use Rattle.engine.proofs.AnswerLaws.{isYes, accepted-exactly, refused-by}
+
+-- the fields of a reply; none where there is none
+abbrev pub replyFields : Option Reply → List Value
+replyFields none = []
+replyFields (some r) = r .fields
+
+-- fields of an accepted reply to the command
+abbrev pub AreReplyOf : Command → Option Reply → Type 0
+AreReplyOf c o = areOfTypes (messages c .reply) (messages c .more) (replyFields o) ≡ true
+
+strings : (names : List (List ℕ)) → areOfTypes [] (some String) (map string names) ≡ true
+strings [] = refl
+strings (s ∷ names) = strings names
+
+numbers : (ns : List ℕ) → areOfTypes [] (some Number) (map number ns) ≡ true
+numbers [] = refl
+numbers (n ∷ ns) = numbers ns
+
+effect-types : (x : Call) (c : Command) (vs : List Value) (r s : List ℕ) (names : List (List ℕ)) → AreReplyOf c (effect x c vs r s .reply names)
+unfolding answered listed queryFields slotFields
+effect-types x RS vs r s names = refl
+effect-types x KC vs r s names = refl
+effect-types x KR vs r s names = refl
+effect-types x KL vs r s names = refl
+effect-types x KF vs r s names = refl
+effect-types x KX vs r s names = refl
+effect-types x KD vs r s names = refl
+effect-types x GA vs r s names = refl
+effect-types x GL vs r s names = strings names
+effect-types x KQ vs r s names = numbers (registersUnder (kmcidOf (slotNamed s (x .slots))) (x .registers))
+effect-types x Unknown vs r s names = refl
+
+-- no field, or one string
+abbrev pub isBrief : List Value → Bool
+isBrief vs = areOfTypes [] none vs || areOfTypes (String ∷ []) none vs
+
+all-brief : (x : Call) → allRefusals (λ r. isBrief (refusal r .fields)) (questions x) ≡ true
+unfolding questions
+all-brief x = refl
+
+brief-under : (q : List ℕ) (h : Option Header) (e : RefusalEntry) → isBrief (e .fields) ≡ true → isBrief (replyFields (replyUnder q h e)) ≡ true
+brief-under q none e y = refl
+brief-under q (some general) e y = y
+brief-under q (some own) e y = y
+
+-- the examples of 001: SM?KDN13~ (6.3.9.4) has its fields, and with a string in the number's place it has not
+kd-fields : (areFieldsOf KD (number 13 ∷ []) ≡ true) × (areFieldsOf KD (string (text "13") ∷ []) ≡ false)
+unfolding areFieldsOf
+kd-fields = (refl, refl)
+
+module _ (x : Call) (names : List (List ℕ)) where
+  abbrev c : Command
+  c = commandIn (x .request)
+
+  abbrev vs : List Value
+  vs = fieldsIn (x .request)
+
+  -- an accepted request has the fields of its command,
+  pub request-types : isYes (answerOf x .outcome) ≡ true → areFieldsOf c vs ≡ true
+  unfolding questions
+  request-types e = accepted-exactly x .0 e .1 .1 .1 .1 .1 .1 .1 .0
+
+  -- and its reply has them
+  pub reply-types : isYes (answerOf x .outcome) ≡ true → AreReplyOf c (answerOf x .reply names)
+  unfolding answerOf refused
+  reply-types e = go (firstNo (questions x)) e
+    where
+      go : (o : Option Refusal) → isYes (answerTo x o c vs .outcome) ≡ true → AreReplyOf c (answerTo x o c vs .reply names)
+      go (some r) w = nope (cc)
+      go none w = effect-types x c vs (recordIn c vs) (slotIn c vs) names
+
+  -- the reply to a refused one is brief
+  pub refusal-types : (r : Refusal) → answerOf x .outcome ≡ Refused r → isBrief (replyFields (answerOf x .reply names)) ≡ true
+  unfolding answerOf refused
+  refusal-types r e =
+      let w = refused-by x r e in
+      rw w (brief-under (x .request) (refusal r .header) (refusal r) (no-listed (λ z. isBrief (refusal z .fields)) (questions x) r (all-brief x) w))
