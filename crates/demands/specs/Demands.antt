@@ -78,7 +78,8 @@ itemIn run = itemOf (run .request) (responseIn run)
 -- are left is history/specs/Demand3.antt
 abbrev pub HoldsOfLists : Type 0
 HoldsOfLists =
-    (slot-count register-count : ℕ) (runs : List Run) (left : Lent) → Runs (emptyRows slot-count register-count) runs left
+    (slot-count register-count : ℕ) (runs : List Run) (left : Lent)
+    → Runs (emptyRows slot-count register-count) runs left
     → Demand3 (map itemIn runs) (tablesOf (left .slots) (left .registers))
 
 -- what is handed in, without the sequence of SM?GL's list

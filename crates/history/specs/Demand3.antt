@@ -1,12 +1,15 @@
--- DEMAND 3: what stands in the rows after a list of requests, told by the requests and their answers (document 01, The words of demand 3).
+-- DEMAND 3: what stands in the rows after a list of requests, by the requests and their answers (document 01, The words
+-- of demand 3).
 use Prim.Native.Nat.{ℕ}
 use mathlib.Core.Path.{_≡_}
 use mathlib.Core.Logic.{_↔_, _⊎_}
 use mathlib.Core.List.{List, _∷_, _++_}
 use Rattle.history.specs.History.{Never, Since}
-use Rattle.history.specs.Model.{Tables, used, State, key, Item, _⇒_, kc, kr, kl, kf, kx, kd, rs, done, loaded, slotRow, registerRow}
+use Rattle.history.specs.Model.{Tables, used, State, key, Item, _⇒_, slotRow, registerRow}
+use Rattle.history.specs.Model.{kc, kr, kl, kf, kx, kd, rs, done, loaded}
 
--- x is an accepted load of g and r into register n under slot s; c is the card that it answered, as a row holds it: then zeros
+-- x is an accepted load of g and r into register n under slot s; c is the card that it answered, as a row holds it:
+-- then zeros
 abbrev pub LoadInto : List ℕ → List ℕ → ℕ → List ℕ → List ℕ → Item → Type 0
 LoadInto g r n s c x = x ≡ (kl s g r ⇒ loaded n c)
 
@@ -76,15 +79,19 @@ pub record HasLive (h : List Item) (g r : List ℕ) : Type 0 where
 
 -- the demand, of the list h and the rows t after it
 pub record Demand3 (h : List Item) (t : Tables) : Type 0 where
-  -- a key of g and r stands exactly when the list has an accepted load of it and, after the last such load, into n under s, no accepted deletion of s or of n
+  -- a key of g and r stands exactly when the list has an accepted load of it and, after the last such load, into n
+  -- under s, no accepted deletion of s or of n
   pub exactly : (g r : List ℕ) → Stands t g r ↔ HasLive h g r
   -- where it stands, it stands in n, under s, with the card that load answered
   pub there : (g r : List ℕ) (n : ℕ) (s c : List ℕ) → Live h g r n s c → StandsIn t g r n s c
   -- and nowhere else
-  pub only : (g r : List ℕ) (n n′ : ℕ) (s c s′ c′ : List ℕ) → Live h g r n s c → StandsIn t g r n′ s′ c′ → (n′ ≡ n) × (s′ ≡ s) × (c′ ≡ c)
+  pub only : (g r : List ℕ) (n n′ : ℕ) (s c s′ c′ : List ℕ) → Live h g r n s c → StandsIn t g r n′ s′ c′
+      → (n′ ≡ n) × (s′ ≡ s) × (c′ ≡ c)
   -- s fills one slot row only
   pub one-row : (g r : List ℕ) (n : ℕ) (s c : List ℕ) → Live h g r n s c → OneRow t s
   -- no slot fills two rows, whether a key stands under it or not
   pub no-two-rows : (s : List ℕ) (i j : ℕ) → Fills t s i → Fills t s j → i ≡ j
-  -- every accepted load lay in a session of its slot, opened by an accepted response and not yet closed, restarted, deleted or reset
-  pub sessions : (before after : List Item) (x : Item) (g r : List ℕ) (n : ℕ) (s c : List ℕ) → h ≡ before ++ (x ∷ after) → LoadInto g r n s c x → InSession s before
+  -- every accepted load lay in a session of its slot, opened by an accepted response and not yet closed, restarted,
+  -- deleted or reset
+  pub sessions : (before after : List Item) (x : Item) (g r : List ℕ) (n : ℕ) (s c : List ℕ)
+      → h ≡ before ++ (x ∷ after) → LoadInto g r n s c x → InSession s before

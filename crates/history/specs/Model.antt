@@ -22,7 +22,8 @@ pub record Tables : Type 0 where
   pub slots : List Slot
   pub registers : List Register
 
--- a request: SM?KC, SM?KR, SM?KF, SM?KX of a slot; SM?KL of a slot, a supply group and a revision; SM?KD of a register; GL?RS; any other bytes
+-- a request: SM?KC, SM?KR, SM?KF, SM?KX of a slot; SM?KL of a slot, a supply group and a revision; SM?KD of a register;
+-- GL?RS; any other bytes
 pub data Request : Type 0 where
   kc : List ℕ → Request
   kr : List ℕ → Request
@@ -33,7 +34,8 @@ pub data Request : Type 0 where
   rs : Request
   other : Request
 
--- an answer: not accepted; accepted; accepted with a register and what its row is to be, the answered card and zeros after it
+-- an answer: not accepted; accepted; accepted with a register and what its row is to be, the answered card and zeros
+-- after it
 pub data Answer : Type 0 where
   refused : Answer
   done : Answer
