@@ -8,9 +8,15 @@ use mathlib.Core.Option.{Option, none, some}
 use lib.ListN.{length, take, drop}
 use native.Mathlib.Omega.{arith}
 use lib.Seq.{take-at, drop-at}
+use borrow.Author.Tests.{eqb-true}
+use Rattle.octets.proofs.Flags.{nope}
 use Rattle.responses.specs.Responses.{Reply, Says}
+use Rattle.rows.specs.Slots.{stateNumber}
+use Rattle.rows.specs.declared.SlotState.{SlotState}
+use Rattle.rows.specs.declared.SlotState.the-variants.{Free, Pending, Loading, Idle}
 use Rattle.engine.specs.Refusals.{refusal}
-use Rattle.engine.specs.Questions.{Call, questions, firstNo}
+use Rattle.engine.specs.Requests.{commandIn}
+use Rattle.engine.specs.Questions.{Call, slotNamed, questions, firstNo}
 use Rattle.engine.specs.Answers.{Answer, response, responseOf, bufferAfter, refusalReply, refused, answerTo, answerOf}
 use Rattle.engine.specs.Outcomes.{outcomeNumber}
 use Rattle.engine.specs.Words.{Lent, callOf}
@@ -19,10 +25,19 @@ use Rattle.engine.specs.declared.Outcome.{Outcome}
 use Rattle.engine.specs.declared.Outcome.the-variants.{Accepted, Done, Refused}
 use Rattle.engine.proofs.QuestionLaws.{all-yes}
 use Rattle.engine.proofs.ReadsBack.{reads-back}
+use Rattle.engine.proofs.SlotStates.{isSession, state-left, state-carried}
 use Rattle.engine.proofs.AnswerLaws.{first-no-decides, refused-by, refused-keeps, no-reply-exactly}
 use Rattle.answer_cases.proofs.Numbers.{one-number, number-range, answer-zero, answer-within}
+use Rattle.answer_numbers.specs.Numbers.{stateByte}
 use Rattle.diminurel.specs.Handles.{Run, Handles, handedIn, answerIn}
-use Rattle.demands.specs.Demands.{responseIn, SaysReply, Demand1, Demand2}
+use Rattle.demands.specs.Demands.{responseIn, SaysReply, slotNameIn, Demand1, Demand2}
+
+-- a state's number is not 255
+state-known : (a : SlotState) → stateNumber a ≢ 255
+state-known Free z = omega arith
+state-known Pending z = omega arith
+state-known Loading z = omega arith
+state-known Idle z = omega arith
 
 module _ (rows : Lent) (run : Run) (left : Lent) (h : Handles rows run left) where
   abbrev call : Call
@@ -98,9 +113,43 @@ module _ (rows : Lent) (run : Run) (left : Lent) (h : Handles rows run left) whe
       go none e = refl
       go (some r) e = absurd (let w : 0 ≡ refusal r .number = sym z ∙ h .outcome-is ∙ ap outcomeNumber (first-no-decides call r e) in omega (arith, w, number-range r .0))
 
-  pub demand2 : Demand2 rows run
+  -- the state that is answered: none but where the outcome carries one
+  states : (o : Outcome) → answerOf call .outcome ≡ o → run .state ≡ stateByte o
+  states o e = h .state-is ∙ ap stateByte e
+
+  is-session : run .state ≢ 255 → (run .outcome ≡ 0) × (isSession (commandIn (run .request)) ≡ true)
+  is-session n = go (answerOf call .outcome) refl
+    where
+      go : (o : Outcome) → answerOf call .outcome ≡ o → (run .outcome ≡ 0) × (isSession (commandIn (run .request)) ≡ true)
+      go (Accepted a) e =
+          let w = rw e at (state-carried call) in
+          (h .outcome-is ∙ ap outcomeNumber e, sym w)
+      go Done e = absurd (n (states Done e))
+      go (Refused q) e = absurd (n (states (Refused q) e))
+
+  session-is : (run .outcome ≡ 0) × (isSession (commandIn (run .request)) ≡ true) → run .state ≢ 255
+  session-is y z = go (answerOf call .outcome) refl
+    where
+      go : (o : Outcome) → answerOf call .outcome ≡ o → ⊥
+      go (Accepted a) e = state-known a (sym (states (Accepted a) e) ∙ z)
+      go Done e = let w = rw e at (state-carried call) in let i = y .1 in nope (cc)
+      go (Refused q) e = let w : refusal q .number ≡ 0 = sym (ap outcomeNumber e) ∙ sym (h .outcome-is) ∙ y .0 in omega (arith, w, number-range q .0)
+
+  left-state : run .state ≢ 255 → run .state ≡ slotNamed (slotNameIn run) (left .slots) .state
+  left-state n = go (answerOf call .outcome) refl
+    where
+      go : (o : Outcome) → answerOf call .outcome ≡ o → run .state ≡ slotNamed (slotNameIn run) (left .slots) .state
+      go (Accepted a) e =
+          let w = state-left call a e in
+          states (Accepted a) e ∙ sym (eqb-true _ (stateNumber a) (rw (h .slots-are) w))
+      go Done e = absurd (n (states Done e))
+      go (Refused q) e = absurd (n (states (Refused q) e))
+
+  pub demand2 : Demand2 rows run left
   demand2 = record {
     accepted = (first-yes, λ e. h .outcome-is ∙ answer-zero call .1 (all-yes (questions call) e));
     refused = λ r. (λ e. refused-by call r (numbered r e), λ e. h .outcome-is ∙ ap outcomeNumber (first-no-decides call r e));
     replied = (names, (h .written .1 .0, says));
+    session = (is-session, session-is);
+    state-left = left-state;
   }

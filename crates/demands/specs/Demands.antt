@@ -3,15 +3,18 @@
 use Prim.Native.Nat.{ℕ, _≤_}
 use mathlib.Core.Path.{_≡_}
 use mathlib.Core.Logic.{_↔_, _≢_}
+use mathlib.Core.Bool.{true}
 use mathlib.Core.List.{List, [], _∷_, map}
 use mathlib.Core.Option.{Option, none, some}
 use lib.ListN.{length, take, drop}
 use Rattle.responses.specs.Responses.{Reply, Says}
+use Rattle.commands.specs.declared.Command.the-variants.{KC, KR, KL, KF, KX}
 use Rattle.rows.specs.Reports.{InSomeSequence}
 use Rattle.history.specs.Model.{Item}
 use Rattle.history.specs.Demand3.{Demand3}
 use Rattle.engine.specs.Refusals.{refusal}
-use Rattle.engine.specs.Questions.{questions, firstNo}
+use Rattle.engine.specs.Requests.{isAmong, commandIn, fieldsIn, slotIn}
+use Rattle.engine.specs.Questions.{slotNamed, questions, firstNo}
 use Rattle.engine.specs.Answers.{refusalReply}
 use Rattle.engine.specs.Words.{Handed, Lent, callOf, tablesOf, itemOf, emptyRows}
 use Rattle.engine.specs.declared.Refusal.{Refusal}
@@ -42,8 +45,12 @@ pub record Demand1 (rows : Lent) (run : Run) (left : Lent) : Type 0 where
   pub fits : run .size ≤ length (run .before)
   pub beyond : drop (run .size) (run .after) ≡ drop (run .size) (run .before)
 
+-- the slot that a request names
+abbrev pub slotNameIn : Run → List ℕ
+slotNameIn run = slotIn (commandIn (run .request)) (fieldsIn (run .request))
+
 -- DEMAND 2, of the same
-pub record Demand2 (rows : Lent) (run : Run) : Type 0 where
+pub record Demand2 (rows : Lent) (run : Run) (left : Lent) : Type 0 where
   -- the request is accepted exactly when every question is a yes,
   pub accepted : (run .outcome ≡ 0) ↔ (firstNo (questions (callOf rows (handedIn run))) ≡ none)
   -- and refused exactly by the first no
@@ -52,6 +59,11 @@ pub record Demand2 (rows : Lent) (run : Run) : Type 0 where
   -- the response reads back as just the reply that the standards want, SM?GL's list in some sequence of the slots
   pub replied : InSomeSequence (rows .slots)
       (λ (names : List (List ℕ)). SaysReply (responseIn run) (answerIn rows run .reply names))
+  -- a slot state is answered (255 is none) exactly to an accepted session command,
+  pub session : (run .state ≢ 255)
+      ↔ ((run .outcome ≡ 0) × (isAmong (commandIn (run .request)) (KC ∷ KR ∷ KL ∷ KF ∷ KX ∷ []) ≡ true))
+  -- and is the state of its slot's row among the rows that are left; 0, free, where no row keeps the name
+  pub state-left : run .state ≢ 255 → run .state ≡ slotNamed (slotNameIn run) (left .slots) .state
 
 -- a list of calls, each over the rows that the one before it left, whatever is handed in and lent at each
 abbrev pub Runs : Lent → List Run → Lent → Type 0

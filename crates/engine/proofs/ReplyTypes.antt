@@ -66,12 +66,12 @@ brief-under q none e y = refl
 brief-under q (some general) e y = y
 brief-under q (some own) e y = y
 
--- the examples of 001: SM?KDN13~ (6.3.9.4) has its fields, and with a string in the number's place it has not
+-- SM?KDN13~, the example of 001 clause 6.3.9.4, has the fields of its command; with a string in the number's place it has not
 kd-fields : (areFieldsOf KD (number 13 ∷ []) ≡ true) × (areFieldsOf KD (string (text "13") ∷ []) ≡ false)
 unfolding areFieldsOf
 kd-fields = (refl, refl)
 
-module _ (x : Call) (names : List (List ℕ)) where
+module _ (x : Call) where
   abbrev c : Command
   c = commandIn (x .request)
 
@@ -83,18 +83,19 @@ module _ (x : Call) (names : List (List ℕ)) where
   unfolding questions
   request-types e = accepted-exactly x .0 e .1 .1 .1 .1 .1 .1 .1 .0
 
-  -- and its reply has them
-  pub reply-types : isYes (answerOf x .outcome) ≡ true → AreReplyOf c (answerOf x .reply names)
-  unfolding answerOf refused
-  reply-types e = go (firstNo (questions x)) e
-    where
-      go : (o : Option Refusal) → isYes (answerTo x o c vs .outcome) ≡ true → AreReplyOf c (answerTo x o c vs .reply names)
-      go (some r) w = nope (cc)
-      go none w = effect-types x c vs (recordIn c vs) (slotIn c vs) names
+  module _ (names : List (List ℕ)) where
+    -- and its reply has those of the reply, whatever sequence SM?GL's list has;
+    pub reply-types : isYes (answerOf x .outcome) ≡ true → AreReplyOf c (answerOf x .reply names)
+    unfolding answerOf refused
+    reply-types e = go (firstNo (questions x)) e
+      where
+        go : (o : Option Refusal) → isYes (answerTo x o c vs .outcome) ≡ true → AreReplyOf c (answerTo x o c vs .reply names)
+        go (some r) w = nope (cc)
+        go none w = effect-types x c vs (recordIn c vs) (slotIn c vs) names
 
-  -- the reply to a refused one is brief
-  pub refusal-types : (r : Refusal) → answerOf x .outcome ≡ Refused r → isBrief (replyFields (answerOf x .reply names)) ≡ true
-  unfolding answerOf refused
-  refusal-types r e =
-      let w = refused-by x r e in
-      rw w (brief-under (x .request) (refusal r .header) (refusal r) (no-listed (λ z. isBrief (refusal z .fields)) (questions x) r (all-brief x) w))
+    -- that of a refused request has no field or one string
+    pub refusal-types : (r : Refusal) → answerOf x .outcome ≡ Refused r → isBrief (replyFields (answerOf x .reply names)) ≡ true
+    unfolding answerOf refused
+    refusal-types r e =
+        let w = refused-by x r e in
+        rw w (brief-under (x .request) (refusal r .header) (refusal r) (no-listed (λ z. isBrief (refusal z .fields)) (questions x) r (all-brief x) w))

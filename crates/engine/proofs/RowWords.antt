@@ -87,7 +87,7 @@ idle-stays v e f = go (isZeroSlot v)
 -- a sound row
 module _ (v : SlotRow) (h : isSlotSound v ≡ true) where
   -- it reads as free by its state too
-  slot-by-state : slotIs v ≡ cond (hasState Free v) free (used (kmcidOf v) (stateIn (v .state)))
+  pub slot-by-state : slotIs v ≡ cond (hasState Free v) free (used (kmcidOf v) (stateIn (v .state)))
   unfolding slotIs
   slot-by-state = rw (free-is-zero v h) refl
 

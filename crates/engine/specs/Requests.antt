@@ -1,4 +1,5 @@
--- What a request says: its command, the fields of its payload, and what they name (document 01, Slots and registers; 001 clauses 6.2.7 and 6.3).
+-- What a request says: its command, the fields of its payload, and what they name (document 01, Slots and registers;
+-- 001 clauses 6.2.7 and 6.3).
 use Prim.Native.Nat.{ℕ}
 use mathlib.Core.Bool.{Bool, false, cond, _||_}
 use mathlib.Core.List.{List, [], _∷_}

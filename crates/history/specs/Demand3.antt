@@ -1,12 +1,12 @@
--- DEMAND 3: what stands in the rows after a list of requests, told by the requests and their answers (document 01, The
--- words of demand 3).
+-- DEMAND 3: what stands in the rows after a list of requests, by the requests and their answers (document 01, The words
+-- of demand 3).
 use Prim.Native.Nat.{ℕ}
 use mathlib.Core.Path.{_≡_}
 use mathlib.Core.Logic.{_↔_, _⊎_}
 use mathlib.Core.List.{List, _∷_, _++_}
 use Rattle.history.specs.History.{Never, Since}
-use Rattle.history.specs.Model.{Tables, used, State, key, Item, _⇒_, kc, kr, kl, kf, kx, kd, rs, done, loaded}
-use Rattle.history.specs.Model.{slotRow, registerRow}
+use Rattle.history.specs.Model.{Tables, used, State, key, Item, _⇒_, slotRow, registerRow}
+use Rattle.history.specs.Model.{kc, kr, kl, kf, kx, kd, rs, done, loaded}
 
 -- x is an accepted load of g and r into register n under slot s; c is the card that it answered, as a row holds it:
 -- then zeros
