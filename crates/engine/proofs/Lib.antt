@@ -10,3 +10,4 @@ pub mod Readings
 pub mod ReplyLengths
 pub mod ReadsBack
 pub mod DecisionLaws
+pub mod Counted
