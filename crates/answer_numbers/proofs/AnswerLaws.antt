@@ -9,8 +9,8 @@ use Rattle.rows.specs.declared.Supplement.{Supplement}
 use Rattle.rows.specs.declared.Tables.{Tables}
 use Rattle.lent_rows.specs.declared.SlotTable.{SlotTable}
 use Rattle.lent_rows.specs.declared.RegisterTable.{RegisterTable}
-use Rattle.row_index.specs.Lent.{cardIn, rowsWith, tablesWith}
-use Rattle.row_index.proofs.LentLaws.{rows-again}
+use Rattle.row_index.specs.Lent.{cardIn, rowsWith, tablesWithCards}
+use Rattle.row_index.proofs.LentLaws.{tables-again}
 use Rattle.engine.specs.Answers.{answerOf}
 use Rattle.engine.specs.Calls.{callIn, Responded, tablesAfter}
 use Rattle.engine.specs.Outcomes.{outcomeNumber}
@@ -22,12 +22,10 @@ use Rattle.answer_numbers.specs.Joined.{joined, slotsIn, registersIn}
 -- answer: the tables with the cards of the register rows are the joined ones
 module _ (s : SlotTable) (r : RegisterTable) (cards : List (List ℕ)) (w : cards ≡ map cardIn (r .rows)) (x : Supplement) (q : List ℕ) (room : ℕ) where
   abbrev lent : Tables
-  lent = tablesWith (s .rows) (s .count) (rowsWith cards) (r .count)
+  lent = tablesWithCards (s .rows) (s .count) cards (r .count)
 
   lent-joined : lent ≡ joined s r
-  lent-joined =
-      let e : rowsWith cards ≡ r .rows = ap rowsWith w ∙ rows-again (r .rows) in
-      ap (λ (l : List RegisterRow). tablesWith (s .rows) (s .count) l (r .count)) e
+  lent-joined = tables-again (s .rows) (s .count) (r .rows) (r .count) cards w
 
   module _ (o : Outcome) (p : o ≡ answerOf (callIn lent x q room) .outcome) (n : ℕ) where
     pub number-of : n ≡ outcomeNumber o → n ≡ outcomeNumber (answerOf (callIn (joined s r) x q room) .outcome)
@@ -40,8 +38,8 @@ module _ (s : SlotTable) (r : RegisterTable) (cards : List (List ℕ)) (w : card
   responded-of a b n h = subst (λ (v : Tables). Responded v (answerOf (callIn v x q room)) a n b) lent-joined h
 
   -- the rows after it
-  module _ (a : List SlotRow) (c : List (List ℕ)) (p : tablesWith a (s .count) (rowsWith c) (r .count) ≡ tablesAfter lent (answerOf (callIn lent x q room))) where
-    after-of : tablesWith a (s .count) (rowsWith c) (r .count) ≡ tablesAfter (joined s r) (answerOf (callIn (joined s r) x q room))
+  module _ (a : List SlotRow) (c : List (List ℕ)) (p : tablesWithCards a (s .count) c (r .count) ≡ tablesAfter lent (answerOf (callIn lent x q room))) where
+    after-of : tablesWithCards a (s .count) c (r .count) ≡ tablesAfter (joined s r) (answerOf (callIn (joined s r) x q room))
     after-of = p ∙ ap (λ (v : Tables). tablesAfter v (answerOf (callIn v x q room))) lent-joined
 
     pub slots-of : record { rows = a; count = s .count } ≡ slotsIn (tablesAfter (joined s r) (answerOf (callIn (joined s r) x q room)))

@@ -1,4 +1,5 @@
-// What is to be done once the message is right (document 01, "Questions in order", 8 to 18): the questions of its command.
+// What is to be done once the message is right (document 01, "Questions in order", 8 to 18): the questions of its
+// command.
 use commands::Command;
 use engine::Decision;
 use engine::Refusal;
@@ -16,28 +17,37 @@ ghost use Rattle.engine.specs.Decisions.{decisionFor};
 
 // By the command; the last arm is never reached.
 pub fn decide_command(
-    c: Command,
+    command: Command,
     slots: [SlotRow; 8],
-    n: usize,
+    slot_count: usize,
     keys: [u64; 32],
-    m: usize,
-    x: Supplement,
+    register_count: usize,
+    supplement: Supplement,
     payload: &[u8],
 ) -> Decision
-    requires { ⌜ (n ≤ 8) × (m ≤ 32) × (isOneOfTen c ≡ true) ⌝ }
-    ensures { λ d. ⌜ ((k : Call) → k .slots ≡ take n slots → AreKeys (take m keys) (k .registers) → k .supplement ≡ x → d ≡ decisionFor k c (valuesOf (now (payload .entry)))) ⌝ }
+    requires { ⌜ («slot_count» ≤ 8) × («register_count» ≤ 32) × (isOneOfTen command ≡ true) ⌝ }
+    ensures { λ d. ⌜ ((c : Call) → c .slots ≡ take «slot_count» slots
+        → AreKeys (take «register_count» keys) (c .registers) → c .supplement ≡ supplement
+        → d ≡ decisionFor c command (valuesOf (now (payload .entry)))) ⌝ }
 {
-    match c {
+    match command {
         Command::RS => slot_decisions::decide_reset(payload),
-        Command::KC => session_decisions::decide_pend(slots, n, x, payload),
-        Command::KR => session_decisions::decide_open(slots, n, x, payload),
-        Command::KL => load_decisions::decide_load(slots, n, keys, m, x, payload),
-        Command::KF => slot_decisions::decide_finish(slots, n, payload),
-        Command::KX => slot_decisions::decide_delete(slots, n, payload),
-        Command::KD => register_decisions::decide_clear(keys, m, payload),
-        Command::GA => register_decisions::decide_show(keys, m, payload),
+        Command::KC => session_decisions::decide_pend(slots, slot_count, supplement, payload),
+        Command::KR => session_decisions::decide_open(slots, slot_count, supplement, payload),
+        Command::KL => load_decisions::decide_load(
+            slots,
+            slot_count,
+            keys,
+            register_count,
+            supplement,
+            payload,
+        ),
+        Command::KF => slot_decisions::decide_finish(slots, slot_count, payload),
+        Command::KX => slot_decisions::decide_delete(slots, slot_count, payload),
+        Command::KD => register_decisions::decide_clear(keys, register_count, payload),
+        Command::GA => register_decisions::decide_show(keys, register_count, payload),
         Command::GL => slot_decisions::decide_enumerate(payload),
-        Command::KQ => slot_decisions::decide_query(slots, n, payload),
+        Command::KQ => slot_decisions::decide_query(slots, slot_count, payload),
         Command::Unknown => Decision::Refuse(Refusal::UnknownHeader),
     }
 }

@@ -1,5 +1,5 @@
--- What each command is asked, 8 and on (document 01, Questions in order): S and R are the rows, x the supplement, vs the fields, r the record, s the slot's name,
--- row the slot's row.
+-- What each command is asked, 8 and on (document 01, Questions in order): S and R are the rows, x the supplement, vs the
+-- fields, r the record, s the slot's name, row the slot's row.
 use Prim.Native.Nat.{ℕ, _-_}
 use mathlib.Core.Bool.{_||_}
 use mathlib.Core.List.{List, [], _∷_}
@@ -9,7 +9,8 @@ use Rattle.octets.specs.Strings.{sameBytes}
 use Rattle.timestamp.specs.Timestamps.{timestampOf, isLater}
 use Rattle.fields.specs.Values.{Value}
 use Rattle.identities.specs.Identities.{nameIn, fingerprintIn}
-use Rattle.key_records.specs.KeyRecords.{parsesPublicKey, publicKeyInForm, parsesResponse, responseInForm, parsesKey, keyInForm}
+use Rattle.key_records.specs.KeyRecords.{parsesPublicKey, parsesResponse, parsesKey}
+use Rattle.key_records.specs.KeyRecords.{publicKeyInForm, responseInForm, keyInForm}
 use Rattle.commands.specs.declared.Command.the-variants.{RS, KF, KD}
 use Rattle.rows.specs.Slots.{hasState}
 use Rattle.rows.specs.Supplements.{ownIdentity}
@@ -17,10 +18,15 @@ use Rattle.rows.specs.declared.SlotRow.{SlotRow}
 use Rattle.rows.specs.declared.RegisterRow.{RegisterRow}
 use Rattle.rows.specs.declared.Supplement.{Supplement}
 use Rattle.rows.specs.declared.SlotState.the-variants.{Pending, Loading}
-use Rattle.engine.specs.Requests.{areFieldsOf, firstText, registerIn, kmcIdentityIn, moduleIdentityIn, expiryIn, tvpIn, tagIn, cardIn}
-use Rattle.engine.specs.Questions.{Question, _otherwise_, slotPlace, sessionPlace, storePlace, placeIn, isPlace, groupIn, revisionIn, isFilled, firstNo}
+use Rattle.engine.specs.Requests.{areFieldsOf, firstText, registerIn}
+use Rattle.engine.specs.Requests.{kmcIdentityIn, moduleIdentityIn, expiryIn, tvpIn, tagIn, cardIn}
+use Rattle.engine.specs.Questions.{Question, _otherwise_, isFilled, firstNo}
+use Rattle.engine.specs.Questions.{slotPlace, sessionPlace, storePlace, placeIn, isPlace, groupIn, revisionIn}
 use Rattle.engine.specs.declared.Refusal.{Refusal}
-use Rattle.engine.specs.declared.Refusal.the-variants.{BadFields, BadRecord, BadForm, Expired, UnknownSlot, NoFreeSlot, WrongState, OtherModule, OtherFingerprint, OtherTvp, OtherTag, CheckFailed, NoFreeRegister, EmptyRegister}
+use Rattle.engine.specs.declared.Refusal.the-variants.{BadFields, BadRecord, BadForm, Expired}
+use Rattle.engine.specs.declared.Refusal.the-variants.{UnknownSlot, NoFreeSlot, WrongState}
+use Rattle.engine.specs.declared.Refusal.the-variants.{OtherModule, OtherFingerprint, OtherTvp, OtherTag}
+use Rattle.engine.specs.declared.Refusal.the-variants.{CheckFailed, NoFreeRegister, EmptyRegister}
 use Rattle.engine.specs.declared.Decision.{Decision}
 use Rattle.engine.specs.declared.Decision.the-variants.{Refuse}
 use Rattle.command_questions.specs.declared.Asked.{Asked}
@@ -32,7 +38,10 @@ plainQuestions vs = (areFieldsOf RS vs otherwise BadFields) ∷ []
 
 -- SM?KX and SM?KQ, and SM?KF first: the slot that they name
 abbrev pub slotQuestions : List SlotRow → List Value → List Question
-slotQuestions S vs = (areFieldsOf KF vs otherwise BadFields) ∷ (isPlace (slotPlace (firstText vs) S) otherwise UnknownSlot) ∷ []
+slotQuestions S vs =
+    (areFieldsOf KF vs otherwise BadFields)
+    ∷ (isPlace (slotPlace (firstText vs) S) otherwise UnknownSlot)
+    ∷ []
 
 -- then SM?KF: question 14
 abbrev pub sessionQuestions : SlotRow → List Question
@@ -40,7 +49,10 @@ sessionQuestions row = ((hasState Pending row || hasState Loading row) otherwise
 
 -- SM?KD and SM?GA: the register that they name
 abbrev pub registerQuestions : List RegisterRow → List Value → List Question
-registerQuestions R vs = (areFieldsOf KD vs otherwise BadFields) ∷ (isFilled (registerIn vs) R otherwise EmptyRegister) ∷ []
+registerQuestions R vs =
+    (areFieldsOf KD vs otherwise BadFields)
+    ∷ (isFilled (registerIn vs) R otherwise EmptyRegister)
+    ∷ []
 
 -- SM?KC, once its field is right
 abbrev pub pendQuestions : List SlotRow → Supplement → List ℕ → List Question

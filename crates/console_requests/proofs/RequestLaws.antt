@@ -14,14 +14,14 @@ use Rattle.rows.specs.Places.{slotRows}
 use Rattle.rows.specs.Reports.{InSomeSequence}
 use Rattle.rows.specs.declared.Tables.{Tables}
 use Rattle.rows.specs.declared.Supplement.{Supplement}
-use Rattle.engine.specs.Answers.{response, answerOf, bufferAfter}
+use Rattle.engine.specs.Answers.{Answer, response, answerOf, bufferAfter}
 use Rattle.engine.specs.Calls.{callIn, Responded, tablesAfter}
 use Rattle.engine.specs.declared.Outcome.{Outcome}
 use Rattle.hex_octets.specs.Octets.{octetsOf}
 use Rattle.console_state.specs.State.{withTables}
 use Rattle.console_state.specs.declared.Console.{Console}
 use Rattle.console_outcomes.specs.Outcomes.{outcomeLine}
-use Rattle.console_requests.specs.Requests.{room, callBy, answeredBy, SaysAnswer}
+use Rattle.console_requests.specs.Requests.{room, answeredBy, SaysAnswer}
 
 -- room
 module _ (c : Console) where
@@ -64,17 +64,20 @@ module _ (c : Console) (q r e : List ℕ) (n : ℕ) (z : 2048 ≡ length r) (h :
   lent : length (take n r) ≡ room c
   lent = sym (part r n z h) ∙ k
 
-  pub next-state : (t : Tables) (d : Console) → t ≡ tablesAfter (c .tables) (answerOf (callIn (c .tables) (c .supplement) q (length (take n r)))) → d ≡ withTables t c → d ≡ answeredBy c q
+  abbrev given : Answer
+  given = answerOf (callIn (c .tables) (c .supplement) q (length (take n r)))
+
+  pub next-state : (t : Tables) (d : Console) → t ≡ tablesAfter (c .tables) given → d ≡ withTables t c → d ≡ answeredBy c q
   next-state t d p w = w ∙ ap (λ (u : Tables). withTables u c) (p ∙ ap (λ (j : ℕ). tablesAfter (c .tables) (answerOf (callIn (c .tables) (c .supplement) q j))) lent)
 
   pub answer-said : (o : Outcome) (m number : ℕ) (a b : List ℕ) (i : ℕ)
-      → o ≡ answerOf (callIn (c .tables) (c .supplement) q (length (take n r))) .outcome
-      → Responded (c .tables) (answerOf (callIn (c .tables) (c .supplement) q (length (take n r)))) (take n r) m e
+      → o ≡ given .outcome
+      → Responded (c .tables) given (take n r) m e
       → Wrote a 0 (outcomeLine number o (take m (e ++ drop n r))) b i
       → SaysAnswer c number q a b i
   answer-said o m number a b i p (names, (perm, (l, s))) w =
-      let v : Wrote a 0 (outcomeLine number (answerOf (callIn (c .tables) (c .supplement) q (length (take n r))) .outcome) (response (answerOf (callIn (c .tables) (c .supplement) q (length (take n r)))) names)) b i =
-      rw (← p, ← whole (response (answerOf (callIn (c .tables) (c .supplement) q (length (take n r)))) names) (take n r) r n m l, ← s) w in
+      let v : Wrote a 0 (outcomeLine number (given .outcome) (response given names)) b i =
+      rw (← p, ← whole (response given names) (take n r) r n m l, ← s) w in
       (names, (perm, rw (← lent) v))
 
 -- send: a text in 2,048 bytes, closed

@@ -1,5 +1,4 @@
--- A request that the console hands in (docs/CONSOLE.md): the call that it makes, the state after it, and the line of
--- its answer.
+-- A request that the console hands in (docs/CONSOLE.md): its answer, the state after it, and the line of the answer.
 use Prim.Native.Nat.{ℕ}
 use mathlib.Core.Bool.{cond}
 use mathlib.Core.List.{List}
@@ -7,8 +6,7 @@ use lib.Dec.{leb}
 use Rattle.octets.specs.Wrote.{Wrote}
 use Rattle.rows.specs.Places.{slotRows}
 use Rattle.rows.specs.Reports.{InSomeSequence}
-use Rattle.engine.specs.Questions.{Call}
-use Rattle.engine.specs.Answers.{response, answerOf}
+use Rattle.engine.specs.Answers.{Answer, response, answerOf}
 use Rattle.engine.specs.Calls.{callIn, tablesAfter}
 use Rattle.console_state.specs.State.{withTables}
 use Rattle.console_state.specs.declared.Console.{Console}
@@ -18,13 +16,13 @@ use Rattle.console_outcomes.specs.Outcomes.{outcomeLine}
 unfoldable pub room : Console → ℕ
 room c = cond (leb (c .room) 2048) (c .room) 2048
 
--- the call that a request makes
-abbrev pub callBy : Console → List ℕ → Call
-callBy c request = callIn (c .tables) (c .supplement) request (room c)
+-- the answer to a request
+abbrev pub answerBy : Console → List ℕ → Answer
+answerBy c request = answerOf (callIn (c .tables) (c .supplement) request (room c))
 
 -- the state after a request
 abbrev pub answeredBy : Console → List ℕ → Console
-answeredBy c request = withTables (tablesAfter (c .tables) (answerOf (callBy c request))) c
+answeredBy c request = withTables (tablesAfter (c .tables) (answerBy c request)) c
 
 -- the line of a request's answer is printed; SM?GL's list is in some sequence
 abbrev pub SaysAnswer : Console → ℕ → List ℕ → List ℕ → List ℕ → ℕ → Type 0
@@ -32,5 +30,5 @@ SaysAnswer c number request before now n =
     InSomeSequence (slotRows (c .tables))
     (λ (names : List (List ℕ)).
     Wrote before 0
-    (outcomeLine number (answerOf (callBy c request) .outcome) (response (answerOf (callBy c request)) names))
+    (outcomeLine number (answerBy c request .outcome) (response (answerBy c request) names))
     now n)

@@ -16,8 +16,8 @@ use Rattle.rows.specs.declared.Tables.{Tables}
 use Rattle.rows.specs.declared.SlotRow.{SlotRow}
 use Rattle.rows.specs.declared.RegisterRow.{RegisterRow}
 use Rattle.card_writer.specs.declared.Stored.{Stored}
-use Rattle.row_index.specs.Lent.{cardIn, rowsWith, tablesWith}
-use Rattle.row_index.proofs.LentLaws.{rows-again}
+use Rattle.row_index.specs.Lent.{cardIn, rowsWith, tablesWith, tablesWithCards}
+use Rattle.row_index.proofs.LentLaws.{tables-again}
 use Rattle.engine.specs.Questions.{areCounts}
 use Rattle.engine.specs.Answers.{response, answerOf}
 use Rattle.engine.specs.Calls.{callIn, Responded, tablesAfter}
@@ -79,11 +79,10 @@ module _ (slots : List SlotRow) (n : ℕ) (R : List RegisterRow) (m : ℕ) (x : 
 -- handle: the tables with the cards of their rows are the tables
 module _ (t : Tables) (cards : List (List ℕ)) (w : cards ≡ map cardIn (t .registers)) (x : Supplement) (q : List ℕ) (room : ℕ) where
   abbrev lent : Tables
-  lent = tablesWith (t .slots) (t .«slot_count») (rowsWith cards) (t .«register_count»)
+  lent = tablesWithCards (t .slots) (t .«slot_count») cards (t .«register_count»)
 
   same-tables : lent ≡ t
-  same-tables = let e : rowsWith cards ≡ t .registers = ap rowsWith w ∙ rows-again (t .registers) in
-      ap (λ (l : List RegisterRow). tablesWith (t .slots) (t .«slot_count») l (t .«register_count»)) e
+  same-tables = tables-again (t .slots) (t .«slot_count») (t .registers) (t .«register_count») cards w
 
   pub outcome-lent : (o : Outcome) → o ≡ answerOf (callIn lent x q room) .outcome → o ≡ answerOf (callIn t x q room) .outcome
   outcome-lent o v = v ∙ ap (λ (u : Tables). answerOf (callIn u x q room) .outcome) same-tables
@@ -91,6 +90,6 @@ module _ (t : Tables) (cards : List (List ℕ)) (w : cards ≡ map cardIn (t .re
   pub responded-lent : (a b : List ℕ) (k : ℕ) → Responded lent (answerOf (callIn lent x q room)) a k b → Responded t (answerOf (callIn t x q room)) a k b
   responded-lent a b k v = subst (λ (u : Tables). Responded u (answerOf (callIn u x q room)) a k b) same-tables v
 
-  pub rows-after : (s : List SlotRow) (c : List (List ℕ)) → tablesWith s (t .«slot_count») (rowsWith c) (t .«register_count») ≡ tablesAfter lent (answerOf (callIn lent x q room))
+  pub rows-after : (s : List SlotRow) (c : List (List ℕ)) → tablesWithCards s (t .«slot_count») c (t .«register_count») ≡ tablesAfter lent (answerOf (callIn lent x q room))
       → (l : List RegisterRow) → l ≡ rowsWith c → tablesWith s (t .«slot_count») l (t .«register_count») ≡ tablesAfter t (answerOf (callIn t x q room))
   rows-after s c v l y = rw y (v ∙ ap (λ (u : Tables). tablesAfter u (answerOf (callIn u x q room))) same-tables)

@@ -5,5 +5,3 @@ pub mod RowsAfter
 pub mod Fits
 pub mod FoundLaws
 pub mod HandleLaws
-pub mod EntryLists
-pub mod EntryReads

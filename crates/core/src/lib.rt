@@ -1,5 +1,6 @@
-// The engine over tables by value: a request, the tables, a response buffer and a supplement give an accepted answer or a refusal (document 01). The cards of the register rows are
-// lent inside: question 3 reads each once, and what it finds serves the decision, the response and the change of the rows.
+// The engine over tables by value: a request, the tables, a response buffer and a supplement give an accepted answer or
+// a refusal (document 01). The cards of the register rows are lent inside: question 3 reads each once, and what it finds
+// serves the decision, the response and the change of the rows.
 use engine::Outcome;
 use register_keys::Findings;
 use rows::SlotRow;
@@ -7,25 +8,32 @@ use rows::Supplement;
 use rows::Tables;
 ghost use mathlib.Core.Path.{_≡_};
 ghost use mathlib.Core.Bool.{true};
-ghost use Prim.Native.Nat.{_≤_};
 ghost use lib.ListN.{length, take};
-ghost use Rattle.row_index.specs.Lent.{rowsWith, tablesWith};
+ghost use Rattle.row_index.specs.Lent.{rowsWith, tablesWithCards};
 ghost use Rattle.engine.specs.Questions.{areCounts};
-ghost use Rattle.engine.specs.Answers.{answerOf};
-ghost use Rattle.engine.specs.Calls.{callIn, Responded, tablesAfter};
+ghost use Rattle.engine.specs.Calls.{IsAnswered};
 ghost use Rattle.decisions.specs.Found.{IsFound};
 ghost use Rattle.core.specs.Owners.{AreOwners};
 
 // What question 3 answers, and finds where the counts are in range.
-fn find(slots: [SlotRow; 8], n: usize, cards: &[[u8; 256]], m: usize) -> Findings
+fn find(
+    slots: [SlotRow; 8],
+    slot_count: usize,
+    cards: &[[u8; 256]],
+    register_count: usize,
+) -> Findings
     requires { ⌜ length (now cards) ≡ 32 ⌝ }
-    ensures { λ f. ⌜ (areCounts n m ≡ true → IsFound (f .sound) (f .keys) (take n slots) (take m (rowsWith (now (cards .entry)))) m) ⌝ }
-    ensures owners { λ f. ⌜ (areCounts n m ≡ true → AreOwners (f .owners) (take n slots) (take m (rowsWith (now (cards .entry)))) m) ⌝ }
+    ensures { λ f. ⌜ (areCounts «slot_count» «register_count» ≡ true
+        → IsFound (f .sound) (f .keys) (take «slot_count» slots)
+        (take «register_count» (rowsWith (now (cards .entry)))) «register_count») ⌝ }
+    ensures owners { λ f. ⌜ (areCounts «slot_count» «register_count» ≡ true
+        → AreOwners (f .owners) (take «slot_count» slots)
+        (take «register_count» (rowsWith (now (cards .entry)))) «register_count») ⌝ }
 {
-    if !row_counts::are_counts(n, m) {
+    if !row_counts::are_counts(slot_count, register_count) {
         return soundness::unsound();
     }
-    soundness::find(slots, n, &cards[..m])
+    soundness::find(slots, slot_count, &cards[..register_count])
 }
 
 // How a request ended, how long its response is, and the slot rows after it.
@@ -35,31 +43,51 @@ pub struct Handled {
     pub slots: [SlotRow; 8],
 }
 
-// Handles a request over slot rows and lent cards, which are changed in place; n and m rows of each are the caller's.
+// Handles a request over slot rows and lent cards, which are changed in place; the first slot_count and register_count
+// of them are the caller's.
 pub fn handle_cards(
     slots: [SlotRow; 8],
-    n: usize,
+    slot_count: usize,
     cards: &mut [[u8; 256]],
-    m: usize,
-    x: Supplement,
+    register_count: usize,
+    supplement: Supplement,
     request: &[u8],
     response: &mut [u8],
 ) -> Handled
     requires { ⌜ length (now cards) ≡ 32 ⌝ }
-    ensures { λ a. ⌜ a .outcome ≡ answerOf (callIn (tablesWith slots n (rowsWith (now (cards .entry))) m) x (now (request .entry)) (length (now (response .entry)))) .outcome ⌝ }
-    ensures written { λ a. ⌜ Responded (tablesWith slots n (rowsWith (now (cards .entry))) m) (answerOf (callIn (tablesWith slots n (rowsWith (now (cards .entry))) m) x (now (request .entry)) (length (now (response .entry))))) (now (response .entry)) (a .length) (now (response .exit)) ⌝ }
-    ensures rows { λ a. ⌜ tablesWith (a .slots) n (rowsWith (now (cards .exit))) m ≡ tablesAfter (tablesWith slots n (rowsWith (now (cards .entry))) m) (answerOf (callIn (tablesWith slots n (rowsWith (now (cards .entry))) m) x (now (request .entry)) (length (now (response .entry))))) ⌝ }
-    ensures fits { λ a. ⌜ a .length ≤ length (now (response .entry)) ⌝ }
+    ensures { λ a. ⌜ IsAnswered (tablesWithCards slots «slot_count» (now (cards .entry)) «register_count»)
+        supplement request response (a .outcome) (a .length)
+        (tablesWithCards (a .slots) «slot_count» (now (cards .exit)) «register_count») ⌝ }
 {
-    let f = find(slots, n, cards, m);
+    let f = find(slots, slot_count, cards, register_count);
     let keys = f.keys;
     let owners = f.owners;
-    let d = decisions::decide(slots, n, m, f.sound, keys, x, request, response.len());
+    let d = decisions::decide(
+        slots,
+        slot_count,
+        register_count,
+        f.sound,
+        keys,
+        supplement,
+        request,
+        response.len(),
+    );
     let outcome = responding::outcome(d);
     let p = frames::payload(request);
-    let after = changes::change_slots(d, slots, n, x, p);
-    let stored = changes::change_registers(d, cards, m, owners, x, p);
-    let length = responding::respond(d, slots, n, cards, m, owners, stored, x, request, response);
+    let after = changes::change_slots(d, slots, slot_count, supplement, p);
+    let stored = changes::change_registers(d, cards, register_count, owners, supplement, p);
+    let length = responding::respond(
+        d,
+        slots,
+        slot_count,
+        cards,
+        register_count,
+        owners,
+        stored,
+        supplement,
+        request,
+        response,
+    );
     Handled {
         outcome,
         length,
@@ -74,31 +102,37 @@ pub struct Answer {
     pub tables: Tables,
 }
 
-// Handles a request. Every input is answered; the first `length` bytes of the buffer are the response, and those beyond keep their value.
-pub fn handle(t: Tables, x: Supplement, request: &[u8], response: &mut [u8]) -> Answer
-    ensures { λ a. ⌜ a .outcome ≡ answerOf (callIn t x (now (request .entry)) (length (now (response .entry)))) .outcome ⌝ }
-    ensures written { λ a. ⌜ Responded t (answerOf (callIn t x (now (request .entry)) (length (now (response .entry))))) (now (response .entry)) (a .length) (now (response .exit)) ⌝ }
-    ensures rows { λ a. ⌜ a .tables ≡ tablesAfter t (answerOf (callIn t x (now (request .entry)) (length (now (response .entry))))) ⌝ }
-    ensures fits { λ a. ⌜ a .length ≤ length (now (response .entry)) ⌝ }
+// Handles a request. Every input is answered; the first `length` bytes of the buffer are the response, and those beyond
+// keep their value.
+pub fn handle(tables: Tables, supplement: Supplement, request: &[u8], response: &mut [u8]) -> Answer
+    ensures { λ a. ⌜ IsAnswered tables supplement request response (a .outcome) (a .length) (a .tables) ⌝ }
 {
-    let slots = t.slots;
-    let registers = t.registers;
-    let n = t.slot_count;
-    let m = t.register_count;
+    let slots = tables.slots;
+    let registers = tables.registers;
+    let slot_count = tables.slot_count;
+    let register_count = tables.register_count;
     let mut cards = register_tables::cards_of(registers);
-    let a = handle_cards(slots, n, &mut cards, m, x, request, response);
+    let a = handle_cards(
+        slots,
+        slot_count,
+        &mut cards,
+        register_count,
+        supplement,
+        request,
+        response,
+    );
     let outcome = a.outcome;
     let slots_after = a.slots;
     let registers_after = register_tables::rows_of(cards);
-    let tables = Tables {
+    let after = Tables {
         slots: slots_after,
         registers: registers_after,
-        slot_count: n,
-        register_count: m,
+        slot_count: slot_count,
+        register_count: register_count,
     };
     Answer {
         outcome,
         length: a.length,
-        tables,
+        tables: after,
     }
 }

@@ -1,4 +1,5 @@
-// What is to be done with a request (document 01, "Questions in order"): questions 1 to 7 are asked in turn, and then those of its command.
+// What is to be done with a request (document 01, "Questions in order"): questions 1 to 7 are asked in turn, and then
+// those of its command.
 use commands::Command;
 use engine::Decision;
 use engine::Refusal;
@@ -17,10 +18,10 @@ ghost use Rattle.engine.specs.Decisions.{decisionOf};
 ghost use Rattle.decisions.specs.Found.{IsFound};
 
 // Question 7: whether the header is one of the ten.
-fn is_one_of_ten(c: Command) -> bool
-    ensures { λ b. ⌜ b ≡ isOneOfTen c ⌝ }
+fn is_one_of_ten(command: Command) -> bool
+    ensures { λ b. ⌜ b ≡ isOneOfTen command ⌝ }
 {
-    match c {
+    match command {
         Command::RS => true,
         Command::KC => true,
         Command::KR => true,
@@ -38,17 +39,21 @@ fn is_one_of_ten(c: Command) -> bool
 // What is to be done with a request; question 3 was answered before, with what it found of the registers.
 pub fn decide(
     slots: [SlotRow; 8],
-    n: usize,
-    m: usize,
+    slot_count: usize,
+    register_count: usize,
     sound: bool,
     keys: [u64; 32],
-    x: Supplement,
+    supplement: Supplement,
     request: &[u8],
     room: usize,
 ) -> Decision
-    ensures { λ d. ⌜ ((R : List RegisterRow) → (areCounts n m ≡ true → IsFound sound keys (take n slots) (take m R) m) → d ≡ decisionOf (callIn (tablesWith slots n R m) x (now (request .entry)) room)) ⌝ }
+    ensures { λ d. ⌜ ((R : List RegisterRow)
+        → (areCounts «slot_count» «register_count» ≡ true
+        → IsFound sound keys (take «slot_count» slots) (take «register_count» R) «register_count»)
+        → d ≡ decisionOf (callIn (tablesWith slots «slot_count» R «register_count»)
+        supplement (now (request .entry)) room)) ⌝ }
 {
-    if !row_counts::are_counts(n, m) {
+    if !row_counts::are_counts(slot_count, register_count) {
         return Decision::Refuse(Refusal::RowCounts);
     }
     if room < 1024 {
@@ -57,7 +62,7 @@ pub fn decide(
     if !sound {
         return Decision::Refuse(Refusal::UnsoundRows);
     }
-    if !supplements::is_well_formed(x) {
+    if !supplements::is_well_formed(supplement) {
         return Decision::Refuse(Refusal::BadSupplement);
     }
     if !frames::is_whole(request) {
@@ -66,9 +71,17 @@ pub fn decide(
     if !frames::is_checked(request) {
         return Decision::Refuse(Refusal::BadChecksum);
     }
-    let c = commands::command_of(frames::header(request));
-    if !is_one_of_ten(c) {
+    let command = commands::command_of(frames::header(request));
+    if !is_one_of_ten(command) {
         return Decision::Refuse(Refusal::UnknownHeader);
     }
-    command_decisions::decide_command(c, slots, n, keys, m, x, frames::payload(request))
+    command_decisions::decide_command(
+        command,
+        slots,
+        slot_count,
+        keys,
+        register_count,
+        supplement,
+        frames::payload(request),
+    )
 }

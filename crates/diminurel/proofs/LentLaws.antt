@@ -18,7 +18,7 @@ use Rattle.engine.specs.Answers.{Answer, refused, answerOf}
 use Rattle.engine.specs.Calls.{callIn, Responded, tablesAfter}
 use Rattle.engine.specs.Usable.{isUsable}
 use Rattle.engine.specs.declared.Refusal.the-variants.{RowCounts}
-use Rattle.core.proofs.EntryLists.{counted}
+use Rattle.engine.proofs.Counted.{counted}
 use Rattle.lent_rows.specs.Tables.{overlay, freeSlots, freeRegisters, slotTable, registerTable}
 use Rattle.lent_rows.proofs.OverlayLaws.{overlay-front, overlay-others, overlay-back}
 use Rattle.answer_numbers.specs.Joined.{joined}

@@ -12,3 +12,4 @@ pub mod ReadsBack
 pub mod DecisionLaws
 pub mod SlotStates
 pub mod ReplyTypes
+pub mod Counted

@@ -1,16 +1,21 @@
--- The call that tables by value, a supplement, a request and a response buffer make; and buffer and tables after an answer to it.
-use Prim.Native.Nat.{ℕ}
+-- The call that tables by value, a supplement, a request and a response buffer make; and the answer to it, with buffer
+-- and tables afterwards.
+use Prim.Native.Nat.{ℕ, _≤_}
 use mathlib.Core.Path.{_≡_}
 use mathlib.Core.List.{List, _++_}
 use lib.ListN.{length, drop}
+use denote.Ref.{RefT, now}
+use denote.Triple.Both.{Both}
 use Rattle.rows.specs.Places.{slotRows, registerRows}
 use Rattle.rows.specs.Reports.{InSomeSequence}
 use Rattle.rows.specs.declared.Tables.{Tables}
 use Rattle.rows.specs.declared.Supplement.{Supplement}
 use Rattle.engine.specs.Questions.{Call}
-use Rattle.engine.specs.Answers.{Answer, response, bufferAfter}
+use Rattle.engine.specs.Answers.{Answer, response, answerOf, bufferAfter}
+use Rattle.engine.specs.declared.Outcome.{Outcome}
 
--- of the places that there are, the rows are as many as the caller has; the counts are the caller's own, so that 33 rows are 33
+-- of the places that there are, the rows are as many as the caller has; the counts are the caller's own, so that 33
+-- rows are 33
 abbrev pub callIn : Tables → Supplement → List ℕ → ℕ → Call
 callIn t x request room = record {
   slots = slotRows t;
@@ -22,7 +27,14 @@ callIn t x request room = record {
   request = request;
 }
 
--- the response's length and the buffer after it, SM?GL's list in some sequence of the slots: this alone of an answer is open
+-- the answer to a request and a response buffer as they were handed in
+abbrev pub answerOver
+    : {X Y : Type 0} → Tables → Supplement → Both (RefT (List ℕ)) X → Both (RefT (List ℕ)) Y → Answer
+answerOver tables supplement request response =
+    answerOf (callIn tables supplement (now (request .entry)) (length (now (response .entry))))
+
+-- the response's length and the buffer after it, SM?GL's list in some sequence of the slots: this alone of an answer is
+-- open
 abbrev pub Responded : Tables → Answer → List ℕ → ℕ → List ℕ → Type 0
 Responded t a before n after =
     InSomeSequence (slotRows t)
@@ -36,3 +48,20 @@ tablesAfter t a = record {
   «slot_count» = t .«slot_count»;
   «register_count» = t .«register_count»;
 }
+
+-- a request over tables is answered: the outcome, the response with its length, and the tables after it
+abbrev pub IsAnswered
+    : {X : Type 0}
+    → Tables
+    → Supplement
+    → Both (RefT (List ℕ)) X
+    → Both (RefT (List ℕ)) (RefT (List ℕ))
+    → Outcome
+    → ℕ
+    → Tables
+    → Type 0
+IsAnswered tables supplement request response outcome size after =
+    (outcome ≡ answerOver tables supplement request response .outcome)
+    × (Responded tables (answerOver tables supplement request response) (now (response .entry)) size (now (response .exit))
+    × ((after ≡ tablesAfter tables (answerOver tables supplement request response))
+    × (size ≤ length (now (response .entry)))))

@@ -1,4 +1,5 @@
--- What is to be done with a call: the refusal of the first no, or the command, with the place of the row that it changes.
+-- What is to be done with a call: the refusal of the first no, or the command, with the place of the row that it
+-- changes.
 use Prim.Native.Nat.{ℕ, _-_}
 use mathlib.Core.List.{List, _++_}
 use mathlib.Core.Option.{Option, none, some}
@@ -6,12 +7,14 @@ use Rattle.fields.specs.Values.{Value}
 use Rattle.commands.specs.declared.Command.{Command}
 use Rattle.commands.specs.declared.Command.the-variants.{RS, KC, KR, KL, KF, KX, KD, GA, GL, KQ, Unknown}
 use Rattle.engine.specs.Requests.{commandIn, fieldsIn, registerIn, recordIn, slotIn, cardIn}
-use Rattle.engine.specs.Questions.{Call, Question, slotPlace, placeIn, sessionPlace, slotNamed, payloadQuestions, rowQuestions, questions, firstNo}
+use Rattle.engine.specs.Questions.{Call, Question, slotPlace, placeIn, sessionPlace, slotNamed}
+use Rattle.engine.specs.Questions.{payloadQuestions, rowQuestions, questions, firstNo}
 use Rattle.engine.specs.Answers.{cardPlace}
 use Rattle.engine.specs.declared.Refusal.{Refusal}
 use Rattle.engine.specs.declared.Refusal.the-variants.{UnknownHeader}
 use Rattle.engine.specs.declared.Decision.{Decision}
-use Rattle.engine.specs.declared.Decision.the-variants.{Refuse, Reset, Pend, Open, Load, Finish, Delete, Clear, Show, Enumerate, Query}
+use Rattle.engine.specs.declared.Decision.the-variants.{Refuse, Reset, Pend, Open, Load, Finish}
+use Rattle.engine.specs.declared.Decision.the-variants.{Delete, Clear, Show, Enumerate, Query}
 
 abbrev pub decided : Option Refusal → Decision → Decision
 decided (some r) d = Refuse r
@@ -34,7 +37,8 @@ granted x Unknown vs r s = Refuse UnknownHeader
 -- questions 8 to 18, where the message is right and brings the command c with the fields vs
 abbrev pub laterQuestions : Call → Command → List Value → List Question
 laterQuestions x c vs =
-    payloadQuestions c vs (recordIn c vs) ++ rowQuestions x c vs (recordIn c vs) (slotIn c vs) (slotNamed (slotIn c vs) (x .slots))
+    payloadQuestions c vs (recordIn c vs)
+    ++ rowQuestions x c vs (recordIn c vs) (slotIn c vs) (slotNamed (slotIn c vs) (x .slots))
 
 unfoldable pub decisionFor : Call → Command → List Value → Decision
 decisionFor x c vs = decided (firstNo (laterQuestions x c vs)) (granted x c vs (recordIn c vs) (slotIn c vs))
@@ -42,5 +46,6 @@ decisionFor x c vs = decided (firstNo (laterQuestions x c vs)) (granted x c vs (
 unfoldable pub decisionOf : Call → Decision
 decisionOf x =
     decided (firstNo (questions x))
-    (granted x (commandIn (x .request)) (fieldsIn (x .request)) (recordIn (commandIn (x .request)) (fieldsIn (x .request)))
+    (granted x (commandIn (x .request)) (fieldsIn (x .request))
+    (recordIn (commandIn (x .request)) (fieldsIn (x .request)))
     (slotIn (commandIn (x .request)) (fieldsIn (x .request))))

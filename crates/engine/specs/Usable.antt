@@ -1,6 +1,8 @@
 -- Which key may vend (document 01, Slots and registers).
 use Prim.Native.Nat.{ℕ}
-use mathlib.Core.Bool.{Bool, _&&_}
+use mathlib.Core.Bool.{Bool}
+use mathlib.Core.List.{[], _∷_}
+use Rattle.octets.specs.Texts.{all}
 use Rattle.attributes.specs.Table.{KSL}
 use Rattle.rows.specs.Slots.{hasState}
 use Rattle.rows.specs.Registers.{attributeOf}
@@ -10,9 +12,12 @@ use Rattle.rows.specs.declared.SlotState.the-variants.{Idle}
 use Rattle.rows.specs.declared.Tables.{Tables}
 use Rattle.engine.specs.Questions.{areCounts, slotNamed, registerNumbered, isFilled}
 
--- a register's key may vend exactly when its slot is IDLE; a register that is 0, beyond the rows or free, unsound rows and counts out of range are a no
+-- a register's key may vend exactly when its slot is IDLE; a register that is 0, beyond the rows or free, unsound rows
+-- and counts out of range are a no
 unfoldable pub isUsable : Tables → ℕ → Bool
-isUsable t n =
+isUsable t n = all (
     areCounts (t .«slot_count») (t .«register_count»)
-    && (areSound (slotRows t) (registerRows t)
-    && (isFilled n (registerRows t) && hasState Idle (slotNamed (attributeOf KSL (registerNumbered n (registerRows t))) (slotRows t))))
+    ∷ areSound (slotRows t) (registerRows t)
+    ∷ isFilled n (registerRows t)
+    ∷ hasState Idle (slotNamed (attributeOf KSL (registerNumbered n (registerRows t))) (slotRows t))
+    ∷ [])

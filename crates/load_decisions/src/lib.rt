@@ -1,4 +1,5 @@
-// SM?KL, which loads a key (document 01, "Questions in order", 8 and on): its questions in turn, and the first no decides.
+// SM?KL, which loads a key (document 01, "Questions in order", 8 and on): its questions in turn, and the first no
+// decides.
 use engine::Decision;
 use engine::Refusal;
 use payloads::TwoTexts;
@@ -24,14 +25,21 @@ ghost use Rattle.engine.specs.declared.Decision.the-variants.{Load};
 ghost use Rattle.command_questions.specs.CommandQuestions.{storeQuestions, loadQuestions};
 
 // SM?KL: questions 16 and 17.
-fn decide_store(keys: [u64; 32], m: usize, x: Supplement, r: &[u8]) -> Decision
-    requires { ⌜ (m ≤ 32) × (keyInForm (now r) ≡ true) ⌝ }
-    ensures { λ d. ⌜ ((R : List RegisterRow) → AreKeys (take m keys) R → d ≡ decided (firstNo (storeQuestions R x (now (r .entry)))) (Load (cardPlace (cardIn (now (r .entry))) R))) ⌝ }
+fn decide_store(
+    keys: [u64; 32],
+    register_count: usize,
+    supplement: Supplement,
+    r: &[u8],
+) -> Decision
+    requires { ⌜ («register_count» ≤ 32) × (keyInForm (now r) ≡ true) ⌝ }
+    ensures { λ d. ⌜ ((R : List RegisterRow) → AreKeys (take «register_count» keys) R
+        → d ≡ decided (firstNo (storeQuestions R supplement (now (r .entry))))
+        (Load (cardPlace (cardIn (now (r .entry))) R))) ⌝ }
 {
-    if !record_tests::has_passed(x) {
+    if !record_tests::has_passed(supplement) {
         return Decision::Refuse(Refusal::CheckFailed);
     }
-    let store = record_tests::store_place(keys, m, r);
+    let store = record_tests::store_place(keys, register_count, r);
     let Place::At(i) = store else {
         return Decision::Refuse(Refusal::NoFreeRegister);
     };
@@ -41,16 +49,19 @@ fn decide_store(keys: [u64; 32], m: usize, x: Supplement, r: &[u8]) -> Decision
 // SM?KL, once its fields are right: s is the slot's name, r the record.
 fn decide_key(
     slots: [SlotRow; 8],
-    n: usize,
+    slot_count: usize,
     keys: [u64; 32],
-    m: usize,
-    x: Supplement,
+    register_count: usize,
+    supplement: Supplement,
     s: &[u8],
     r: &[u8],
 ) -> Decision
-    requires { ⌜ (n ≤ 8) × (m ≤ 32) ⌝ }
-    ensures { λ d. ⌜ ((R : List RegisterRow) → AreKeys (take m keys) R
-        → d ≡ decided (firstNo (loadQuestions (take n slots) R x (now (s .entry)) (now (r .entry)) (slotNamed (now (s .entry)) (take n slots)))) (Load (cardPlace (cardIn (now (r .entry))) R))) ⌝ }
+    requires { ⌜ («slot_count» ≤ 8) × («register_count» ≤ 32) ⌝ }
+    ensures { λ d. ⌜ ((R : List RegisterRow) → AreKeys (take «register_count» keys) R
+        → d ≡ decided
+        (firstNo (loadQuestions (take «slot_count» slots) R supplement (now (s .entry)) (now (r .entry))
+        (slotNamed (now (s .entry)) (take «slot_count» slots))))
+        (Load (cardPlace (cardIn (now (r .entry))) R))) ⌝ }
 {
     if !key_records::parses_key(r) {
         return Decision::Refuse(Refusal::BadRecord);
@@ -58,7 +69,7 @@ fn decide_key(
     if !record_forms::key_in_form(r) {
         return Decision::Refuse(Refusal::BadForm);
     }
-    let place = slot_tables::slot_place(slots, n, s);
+    let place = slot_tables::slot_place(slots, slot_count, s);
     let Place::At(k) = place else {
         return Decision::Refuse(Refusal::UnknownSlot);
     };
@@ -66,20 +77,22 @@ fn decide_key(
     if !slot_tests::has_state(row, SlotState::Loading) {
         return Decision::Refuse(Refusal::WrongState);
     }
-    decide_store(keys, m, x, r)
+    decide_store(keys, register_count, supplement, r)
 }
 
 // SM?KL.
 pub fn decide_load(
     slots: [SlotRow; 8],
-    n: usize,
+    slot_count: usize,
     keys: [u64; 32],
-    m: usize,
-    x: Supplement,
+    register_count: usize,
+    supplement: Supplement,
     payload: &[u8],
 ) -> Decision
-    requires { ⌜ (n ≤ 8) × (m ≤ 32) ⌝ }
-    ensures { λ d. ⌜ ((c : Call) → c .slots ≡ take n slots → AreKeys (take m keys) (c .registers) → c .supplement ≡ x → d ≡ decisionFor c KL (valuesOf (now (payload .entry)))) ⌝ }
+    requires { ⌜ («slot_count» ≤ 8) × («register_count» ≤ 32) ⌝ }
+    ensures { λ d. ⌜ ((c : Call) → c .slots ≡ take «slot_count» slots
+        → AreKeys (take «register_count» keys) (c .registers) → c .supplement ≡ supplement
+        → d ≡ decisionFor c KL (valuesOf (now (payload .entry)))) ⌝ }
 {
     let f = payloads::two_texts(payload);
     let TwoTexts::At {
@@ -93,5 +106,5 @@ pub fn decide_load(
     };
     let s = &payload[start..end];
     let r = &payload[from..to];
-    decide_key(slots, n, keys, m, x, s, r)
+    decide_key(slots, slot_count, keys, register_count, supplement, s, r)
 }

@@ -1,4 +1,5 @@
-// The tests behind questions 11 to 18 (document 01, "Questions in order"): each judges one record, row or supplement, or makes one search of a table.
+// The tests behind questions 11 to 18 (document 01, "Questions in order"): each judges one record, row or supplement, or
+// makes one search of a table.
 use attributes::KRN;
 use attributes::SGC;
 use rows::Place;
@@ -27,134 +28,137 @@ ghost use Rattle.engine.specs.Requests.{kmcIdentityIn, moduleIdentityIn, expiry
 ghost use Rattle.engine.specs.Questions.{isFilled, slotPlace, sessionPlace, storePlace, groupIn, revisionIn};
 
 // Question 11.
-pub fn is_not_expired(r: &[u8], clock: &[u8]) -> bool
-    ensures { λ b. ⌜ b ≡ isLater (timestampOf (expiryIn (now (r .entry)))) (timestampOf (now (clock .entry))) ⌝ }
+pub fn is_not_expired(source: &[u8], clock: &[u8]) -> bool
+    ensures { λ b. ⌜ b ≡ isLater (timestampOf (expiryIn (now (source .entry)))) (timestampOf (now (clock .entry))) ⌝ }
 {
-    let expiry = timestamp::read_timestamp(records::field(r, 124, 3));
+    let expiry = timestamp::read_timestamp(records::field(source, b'|', 3));
     let now = timestamp::read_timestamp(clock);
     timestamp::is_later(expiry, now)
 }
 
 // The KMCID in the KMC identity of a record.
-pub fn kmcid_in<'a>(r: &'a [u8]) -> &'a [u8]
-    ensures { λ s. ⌜ now s ≡ nameIn (kmcIdentityIn (now (r .entry))) ⌝ }
+pub fn kmcid_in<'a>(source: &'a [u8]) -> &'a [u8]
+    ensures { λ s. ⌜ now s ≡ nameIn (kmcIdentityIn (now (source .entry))) ⌝ }
 {
-    records::field(records::field(r, 124, 1), 58, 2)
+    records::field(records::field(source, b'|', 1), b':', 2)
 }
 
 // The place of the slot that a record names.
-pub fn known_place(slots: [SlotRow; 8], n: usize, r: &[u8]) -> Place
-    requires { ⌜ n ≤ 8 ⌝ }
-    ensures { λ p. ⌜ placeOf p ≡ slotPlace (nameIn (kmcIdentityIn (now (r .entry)))) (take n slots) ⌝ }
-    ensures within { λ p. ⌜ PlaceWithin n p ⌝ }
+pub fn known_place(slots: [SlotRow; 8], slot_count: usize, source: &[u8]) -> Place
+    requires { ⌜ «slot_count» ≤ 8 ⌝ }
+    ensures { λ p. ⌜ placeOf p ≡ slotPlace (nameIn (kmcIdentityIn (now (source .entry)))) (take «slot_count» slots) ⌝ }
+    ensures within { λ p. ⌜ PlaceWithin «slot_count» p ⌝ }
 {
-    slot_tables::slot_place(slots, n, kmcid_in(r))
+    slot_tables::slot_place(slots, slot_count, kmcid_in(source))
 }
 
 // Question 13: that place, else the lowest free row.
-pub fn session_place(slots: [SlotRow; 8], n: usize, r: &[u8]) -> Place
-    requires { ⌜ n ≤ 8 ⌝ }
-    ensures { λ p. ⌜ placeOf p ≡ sessionPlace (nameIn (kmcIdentityIn (now (r .entry)))) (take n slots) ⌝ }
+pub fn session_place(slots: [SlotRow; 8], slot_count: usize, source: &[u8]) -> Place
+    requires { ⌜ «slot_count» ≤ 8 ⌝ }
+    ensures { λ p. ⌜ placeOf p ≡ sessionPlace (nameIn (kmcIdentityIn (now (source .entry)))) (take «slot_count» slots) ⌝ }
 {
-    let known = known_place(slots, n, r);
+    let known = known_place(slots, slot_count, source);
     if let Place::At(k) = known {
         return Place::At(k);
     }
-    slot_tables::free_place(slots, n)
+    slot_tables::free_place(slots, slot_count)
 }
 
 // Question 16: the cryptographic check passed.
-pub fn has_passed(x: Supplement) -> bool
-    ensures { λ b. ⌜ b ≡ eqb (x .passed) 1 ⌝ }
+pub fn has_passed(supplement: Supplement) -> bool
+    ensures { λ b. ⌜ b ≡ eqb (supplement .passed) 1 ⌝ }
 {
-    x.passed == 1
+    supplement.passed == 1
 }
 
 // Question 15: the module identity is the module's own.
-pub fn is_own_module(r: &[u8], x: Supplement) -> bool
-    ensures { λ b. ⌜ b ≡ sameBytes (moduleIdentityIn (now (r .entry))) (ownIdentity x) ⌝ }
+pub fn is_own_module(source: &[u8], supplement: Supplement) -> bool
+    ensures { λ b. ⌜ b ≡ sameBytes (moduleIdentityIn (now (source .entry))) (ownIdentity supplement) ⌝ }
 {
-    let n = x.identity_length;
-    let identity = x.identity;
+    let n = supplement.identity_length;
+    let identity = supplement.identity;
     if 128 < n {
-        return octets::same_bytes(records::field(r, 124, 2), &identity);
+        return octets::same_bytes(records::field(source, b'|', 2), &identity);
     }
-    octets::same_bytes(records::field(r, 124, 2), &identity[..n])
+    octets::same_bytes(records::field(source, b'|', 2), &identity[..n])
 }
 
 // Then the fingerprint is the slot's.
-pub fn has_fingerprint(r: &[u8], row: SlotRow) -> bool
-    ensures { λ b. ⌜ b ≡ sameBytes (fingerprintIn (kmcIdentityIn (now (r .entry)))) (row .fingerprint) ⌝ }
+pub fn has_fingerprint(source: &[u8], row: SlotRow) -> bool
+    ensures { λ b. ⌜ b ≡ sameBytes (fingerprintIn (kmcIdentityIn (now (source .entry)))) (row .fingerprint) ⌝ }
 {
     octets::same_bytes(
-        records::field(records::field(r, 124, 1), 58, 4),
+        records::field(records::field(source, b'|', 1), b':', 4),
         &row.fingerprint,
     )
 }
 
 // The TVP is the slot's.
-pub fn has_tvp(r: &[u8], row: SlotRow) -> bool
-    ensures { λ b. ⌜ b ≡ sameBytes (tvpIn (now (r .entry))) (row .tvp) ⌝ }
+pub fn has_tvp(source: &[u8], row: SlotRow) -> bool
+    ensures { λ b. ⌜ b ≡ sameBytes (tvpIn (now (source .entry))) (row .tvp) ⌝ }
 {
-    octets::same_bytes(records::field(r, 124, 3), &row.tvp)
+    octets::same_bytes(records::field(source, b'|', 3), &row.tvp)
 }
 
 // The tag is the one expected.
-pub fn has_tag(r: &[u8], x: Supplement) -> bool
-    ensures { λ b. ⌜ b ≡ sameBytes (tagIn (now (r .entry))) (x .tag) ⌝ }
+pub fn has_tag(source: &[u8], supplement: Supplement) -> bool
+    ensures { λ b. ⌜ b ≡ sameBytes (tagIn (now (source .entry))) (supplement .tag) ⌝ }
 {
-    octets::same_bytes(records::field(r, 124, 4), &x.tag)
+    octets::same_bytes(records::field(source, b'|', 4), &supplement.tag)
 }
 
 // SGC, or KRN, of the card in a record.
-pub fn value_in<'a>(r: &'a [u8], name: u32) -> &'a [u8]
-    ensures { λ v. ⌜ now v ≡ orElse (valueOf name (cardIn (now (r .entry)))) [] ⌝ }
+pub fn value_in<'a>(source: &'a [u8], name: u32) -> &'a [u8]
+    ensures { λ v. ⌜ now v ≡ orElse (valueOf name (cardIn (now (source .entry)))) [] ⌝ }
 {
-    cards::value(records::field(r, 124, 2), name)
+    cards::value(records::field(source, b'|', 2), name)
 }
 
 // The key of the card in a record in form as a number: SGC, ten digits, and KRN, one.
-fn card_key(r: &[u8]) -> u64
-    requires { ⌜ keyInForm (now r) ≡ true ⌝ }
-    ensures { λ n. ⌜ n ≡ decimal (groupIn (cardIn (now (r .entry)))) * 10 + decimal (revisionIn (cardIn (now (r .entry)))) ⌝ }
+fn card_key(source: &[u8]) -> u64
+    requires { ⌜ keyInForm (now source) ≡ true ⌝ }
+    ensures { λ n. ⌜ n ≡ decimal (groupIn (cardIn (now (source .entry)))) * 10
+        + decimal (revisionIn (cardIn (now (source .entry)))) ⌝ }
 {
-    let group = decimals::decimal(value_in(r, SGC));
-    let revision = decimals::decimal(value_in(r, KRN));
+    let group = decimals::decimal(value_in(source, SGC));
+    let revision = decimals::decimal(value_in(source, KRN));
     group * 10 + revision
 }
 
 // Question 17: the register that holds the card's SGC and KRN, else the lowest free one.
-pub fn store_place(keys: [u64; 32], m: usize, r: &[u8]) -> Place
-    requires { ⌜ (m ≤ 32) × (keyInForm (now r) ≡ true) ⌝ }
-    ensures { λ p. ⌜ ((R : List RegisterRow) → AreKeys (take m keys) R → placeOf p ≡ storePlace (groupIn (cardIn (now (r .entry)))) (revisionIn (cardIn (now (r .entry)))) R) ⌝ }
+pub fn store_place(keys: [u64; 32], register_count: usize, source: &[u8]) -> Place
+    requires { ⌜ («register_count» ≤ 32) × (keyInForm (now source) ≡ true) ⌝ }
+    ensures { λ p. ⌜ ((R : List RegisterRow) → AreKeys (take «register_count» keys) R
+        → placeOf p
+        ≡ storePlace (groupIn (cardIn (now (source .entry)))) (revisionIn (cardIn (now (source .entry)))) R) ⌝ }
 {
-    let held = register_searches::key_place(keys, m, card_key(r));
+    let held = register_searches::key_place(keys, register_count, card_key(source));
     if let Place::At(k) = held {
         return Place::At(k);
     }
-    register_searches::key_place(keys, m, 0)
+    register_searches::key_place(keys, register_count, 0)
 }
 
 // Whether the slot has a session: PENDING or LOADING.
-pub fn has_session(r: SlotRow) -> bool
-    ensures { λ b. ⌜ b ≡ (hasState Pending r || hasState Loading r) ⌝ }
+pub fn has_session(row: SlotRow) -> bool
+    ensures { λ b. ⌜ b ≡ (hasState Pending row || hasState Loading row) ⌝ }
 {
-    if slot_tests::has_state(r, SlotState::Pending) {
+    if slot_tests::has_state(row, SlotState::Pending) {
         return true;
     }
-    slot_tests::has_state(r, SlotState::Loading)
+    slot_tests::has_state(row, SlotState::Loading)
 }
 
-// Question 18: whether register n, counted from 1, is filled.
-pub fn is_filled(keys: [u64; 32], m: usize, n: usize) -> bool
-    requires { ⌜ m ≤ 32 ⌝ }
-    ensures { λ b. ⌜ ((R : List RegisterRow) → AreKeys (take m keys) R → b ≡ isFilled n R) ⌝ }
+// Question 18: whether a register, counted from 1, is filled.
+pub fn is_filled(keys: [u64; 32], register_count: usize, register: usize) -> bool
+    requires { ⌜ «register_count» ≤ 32 ⌝ }
+    ensures { λ b. ⌜ ((R : List RegisterRow) → AreKeys (take «register_count» keys) R → b ≡ isFilled register R) ⌝ }
 {
-    if n < 1 {
+    if register < 1 {
         return false;
     }
-    if m < n {
+    if register_count < register {
         return false;
     }
-    keys[n - 1] != 0
+    keys[register - 1] != 0
 }

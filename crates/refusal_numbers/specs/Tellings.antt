@@ -34,4 +34,9 @@ fieldsIn (Module d) n = sm d
 
 -- what an entry says
 abbrev pub refusalIn : Entry → RefusalEntry
-refusalIn e = record { number = e .0; header = headerFor (e .0); status = statusIn (e .1); fields = fieldsIn (e .1) (e .0) }
+refusalIn e = record {
+  number = e .0;
+  header = headerFor (e .0);
+  status = statusIn (e .1);
+  fields = fieldsIn (e .1) (e .0);
+}

@@ -6,7 +6,8 @@ ghost use Rattle.engine.specs.Refusals.{refusal};
 ghost use Rattle.engine.specs.Outcomes.{outcomeNumber};
 ghost use Rattle.refusal_numbers.specs.Tellings.{refusalIn};
 
-// How a refusal is told: not at all; by a status of two characters; or as an extended error, by its own number or by a digit of 003 clause 13.
+// How a refusal is replied: not at all; by a status of two characters; or as an extended error, by its own number or by
+// a digit of 003 clause 13.
 pub enum Telling {
     Nothing,
     Status(u8, u8),
@@ -14,7 +15,7 @@ pub enum Telling {
     Module(u8),
 }
 
-// A refusal's number, and how it is told.
+// A refusal's number, and how it is replied.
 pub struct Entry(pub u8, pub Telling);
 
 // The table of the refusals.

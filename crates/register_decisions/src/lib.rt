@@ -1,4 +1,5 @@
-// SM?KD and SM?GA, the commands about a register (document 01, "Questions in order", 8 and 18): one function a command asks its questions in turn, and the first no decides.
+// SM?KD and SM?GA, the commands about a register (document 01, "Questions in order", 8 and 18): one function a command
+// asks its questions in turn, and the first no decides.
 use command_questions::Asked;
 use engine::Decision;
 use engine::Refusal;
@@ -16,9 +17,10 @@ ghost use Rattle.engine.specs.Decisions.{decisionFor};
 ghost use Rattle.command_questions.specs.CommandQuestions.{registerAsked};
 
 // The register that the only field numbers, counted from 1.
-fn ask_register(keys: [u64; 32], m: usize, payload: &[u8]) -> Asked
-    requires { ⌜ m ≤ 32 ⌝ }
-    ensures { λ a. ⌜ ((R : List RegisterRow) → AreKeys (take m keys) R → a ≡ registerAsked R (valuesOf (now (payload .entry)))) ⌝ }
+fn ask_register(keys: [u64; 32], register_count: usize, payload: &[u8]) -> Asked
+    requires { ⌜ «register_count» ≤ 32 ⌝ }
+    ensures { λ a. ⌜ ((R : List RegisterRow) → AreKeys (take «register_count» keys) R
+        → a ≡ registerAsked R (valuesOf (now (payload .entry)))) ⌝ }
 {
     let f = payloads::one_number(payload);
     let Count::Is(v) = f else {
@@ -28,18 +30,19 @@ fn ask_register(keys: [u64; 32], m: usize, payload: &[u8]) -> Asked
     if n < 1 {
         return Asked::No(Refusal::EmptyRegister);
     }
-    if !record_tests::is_filled(keys, m, n) {
+    if !record_tests::is_filled(keys, register_count, n) {
         return Asked::No(Refusal::EmptyRegister);
     }
     Asked::At(n - 1)
 }
 
 // SM?KD.
-pub fn decide_clear(keys: [u64; 32], m: usize, payload: &[u8]) -> Decision
-    requires { ⌜ m ≤ 32 ⌝ }
-    ensures { λ d. ⌜ ((c : Call) → AreKeys (take m keys) (c .registers) → d ≡ decisionFor c KD (valuesOf (now (payload .entry)))) ⌝ }
+pub fn decide_clear(keys: [u64; 32], register_count: usize, payload: &[u8]) -> Decision
+    requires { ⌜ «register_count» ≤ 32 ⌝ }
+    ensures { λ d. ⌜ ((c : Call) → AreKeys (take «register_count» keys) (c .registers)
+        → d ≡ decisionFor c KD (valuesOf (now (payload .entry)))) ⌝ }
 {
-    let asked = ask_register(keys, m, payload);
+    let asked = ask_register(keys, register_count, payload);
     match asked {
         Asked::No(r) => Decision::Refuse(r),
         Asked::At(k) => Decision::Clear(k),
@@ -47,11 +50,12 @@ pub fn decide_clear(keys: [u64; 32], m: usize, payload: &[u8]) -> Decision
 }
 
 // SM?GA.
-pub fn decide_show(keys: [u64; 32], m: usize, payload: &[u8]) -> Decision
-    requires { ⌜ m ≤ 32 ⌝ }
-    ensures { λ d. ⌜ ((c : Call) → AreKeys (take m keys) (c .registers) → d ≡ decisionFor c GA (valuesOf (now (payload .entry)))) ⌝ }
+pub fn decide_show(keys: [u64; 32], register_count: usize, payload: &[u8]) -> Decision
+    requires { ⌜ «register_count» ≤ 32 ⌝ }
+    ensures { λ d. ⌜ ((c : Call) → AreKeys (take «register_count» keys) (c .registers)
+        → d ≡ decisionFor c GA (valuesOf (now (payload .entry)))) ⌝ }
 {
-    let asked = ask_register(keys, m, payload);
+    let asked = ask_register(keys, register_count, payload);
     match asked {
         Asked::No(r) => Decision::Refuse(r),
         Asked::At(k) => Decision::Show(k),

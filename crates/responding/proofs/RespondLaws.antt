@@ -25,7 +25,7 @@ use Rattle.rows.specs.declared.Supplement.{Supplement}
 use Rattle.rows.specs.declared.Tables.{Tables}
 use Rattle.rows.proofs.PlaceCounts.{getD-any}
 use Rattle.row_index.specs.Found.{isThe, AreOwnedBy}
-use Rattle.row_index.specs.Lent.{rowWith, rowsWith, tablesWith}
+use Rattle.row_index.specs.Lent.{rowWith, rowsWith, tablesWith, tablesWithCards}
 use Rattle.row_index.proofs.LentLaws.{take-short}
 use Rattle.row_index.proofs.NumberLaws.{same-numbers}
 use Rattle.refusals.specs.Tellings.{CanTell}
@@ -201,7 +201,7 @@ module _ {a b : List ℕ} {j : ℕ} (d : Decision) (slots : List SlotRow) (n m :
   load-written t card p e w = rw p (rw e at w)
 
   pub show-written : (cards : List (List ℕ)) (y : List ℕ) → d ≡ Show k → length cards ≡ 32 → k < 32 → Wrote a 0 (responseBytes (headerOf q) accepted (string (trimmed (getD cards k y)) ∷ [])) b j
-      → Wrote a 0 (responseFor d (tablesWith slots n (rowsWith cards) m) x q) b j
+      → Wrote a 0 (responseFor d (tablesWithCards slots n cards m) x q) b j
   show-written cards y p z h w = rw (p, card-at cards k (omega arith) y freeRegister) w
 
   pub query-written : (rows : List RegisterRow) (owners : List ℕ) (y : SlotRow) → d ≡ Query k → length slots ≡ 8 → k < 8

@@ -9,7 +9,7 @@ ghost use mathlib.Core.Path.{_≡_};
 ghost use Prim.Native.Nat.{_≤_};
 ghost use lib.ListN.{length};
 ghost use Rattle.octets.specs.Wrote.{Wrote};
-ghost use Rattle.row_index.specs.Lent.{rowsWith, tablesWith};
+ghost use Rattle.row_index.specs.Lent.{tablesWithCards};
 ghost use Rattle.responding.specs.Responding.{outcomeFor, responseFor, CanRespond};
 
 // The outcome of a decision.
@@ -46,10 +46,10 @@ pub fn respond(
     response: &mut [u8],
 ) -> usize
     requires { ⌜ (length (now cards) ≡ 32)
-        × CanRespond decision (tablesWith slots «slot_count» (rowsWith (now cards)) «register_count»)
+        × CanRespond decision (tablesWithCards slots «slot_count» (now cards) «register_count»)
         owners stored supplement (now request) (length (now response)) ⌝ }
     ensures { λ k. ⌜ Wrote (now (response .entry)) 0
-        (responseFor decision (tablesWith slots «slot_count» (rowsWith (now (cards .entry))) «register_count»)
+        (responseFor decision (tablesWithCards slots «slot_count» (now (cards .entry)) «register_count»)
         supplement (now (request .entry)))
         (now (response .exit)) k ⌝ }
     ensures fits { λ k. ⌜ k ≤ length (now (response .entry)) ⌝ }

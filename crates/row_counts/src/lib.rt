@@ -3,17 +3,17 @@ ghost use mathlib.Core.Path.{_≡_};
 ghost use Rattle.engine.specs.Questions.{areCounts};
 
 // Whether there are 1 to 8 slots and 1 to 32 registers.
-pub fn are_counts(n: usize, m: usize) -> bool
-    ensures { λ b. ⌜ b ≡ areCounts n m ⌝ }
+pub fn are_counts(slot_count: usize, register_count: usize) -> bool
+    ensures { λ b. ⌜ b ≡ areCounts «slot_count» «register_count» ⌝ }
 {
-    if n < 1 {
+    if slot_count < 1 {
         return false;
     }
-    if 8 < n {
+    if 8 < slot_count {
         return false;
     }
-    if m < 1 {
+    if register_count < 1 {
         return false;
     }
-    m <= 32
+    register_count <= 32
 }

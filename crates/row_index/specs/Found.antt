@@ -1,4 +1,5 @@
--- What question 3 finds of the registers: the key of each as a number (keyNumber of `rows`), and the number of the slot that owns it.
+-- What question 3 finds of the registers: the key of each as a number (keyNumber of `rows`), and the number of the
+-- slot that owns it.
 use Prim.Native.Nat.{ℕ}
 use mathlib.Core.Path.{_≡_}
 use mathlib.Core.Bool.{Bool, true, cond}

@@ -19,3 +19,7 @@ cardIn r = r .card
 -- places of slot rows and of register rows, and how many rows of each the caller has
 abbrev pub tablesWith : List SlotRow → ℕ → List RegisterRow → ℕ → Tables
 tablesWith slots n registers m = record { slots = slots; registers = registers; «slot_count» = n; «register_count» = m }
+
+-- the same with the register rows that hold lent cards
+abbrev pub tablesWithCards : List SlotRow → ℕ → List (List ℕ) → ℕ → Tables
+tablesWithCards slots n cards m = tablesWith slots n (rowsWith cards) m

@@ -1,4 +1,5 @@
--- What question 3 compares instead of whole rows, where each row is sound by itself: the slots' names as they are kept, and each register's key as a number.
+-- What question 3 compares instead of whole rows, where each row is sound by itself: the slots' names as they are
+-- kept, and each register's key as a number.
 use Prim.Native.Nat.{ℕ, _+_, _*_}
 use mathlib.Core.Bool.{Bool, cond, not, _&&_, _||_}
 use mathlib.Core.List.{List}

@@ -1,9 +1,10 @@
 -- Register rows (document 01, Slots and registers): a stored card, or free.
 use Prim.Native.Nat.{ℕ}
 use mathlib.Core.Bool.{Bool, cond, not, _&&_, _||_}
-use mathlib.Core.List.{List, []}
+use mathlib.Core.List.{List, [], _∷_}
 use lib.ListN.{replicate}
 use Rattle.octets.specs.Strings.{sameBytes}
+use Rattle.octets.specs.Texts.{all}
 use Rattle.text.specs.Classes.{areAll}
 use Rattle.text.specs.declared.Class.the-variants.{Zero}
 use Rattle.attributes.specs.Table.{SGC, KRN, KSL}
@@ -21,7 +22,7 @@ attributeOf n r = orElse (valueOf n (r .card)) []
 
 -- the row holds a key of the supply group g and the revision k
 unfoldable pub isKeyOf : List ℕ → List ℕ → RegisterRow → Bool
-isKeyOf g k r = not (isVacant r) && (sameBytes (attributeOf SGC r) g && sameBytes (attributeOf KRN r) k)
+isKeyOf g k r = all (not (isVacant r) ∷ sameBytes (attributeOf SGC r) g ∷ sameBytes (attributeOf KRN r) k ∷ [])
 
 -- the row holds a key of the slot s
 unfoldable pub isUnder : List ℕ → RegisterRow → Bool

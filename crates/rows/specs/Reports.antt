@@ -1,4 +1,5 @@
--- What the three commands that only read rows tell of them: SM?GA, SM?GL and SM?KQ (document 01, Slots and registers; 001 clauses 6.3.1, 6.3.2 and 6.3.8).
+-- The fields of the replies to the three commands that only read rows, SM?GA, SM?GL and SM?KQ (document 01, Slots and
+-- registers; 001 clauses 6.3.1, 6.3.2 and 6.3.8).
 use Prim.Native.Nat.{ℕ}
 use mathlib.Core.Bool.{cond, not}
 use mathlib.Core.List.{List, [], _∷_, _++_, map, Perm}
@@ -30,10 +31,11 @@ nameFields names = map string names
 unfoldable pub stateText : SlotRow → List ℕ
 stateText r =
     cond (hasState Pending r) (text "PENDING")
-    (cond (hasState Loading r) (text "LOADING") (text "ACTIVE"))
+    (cond (hasState Loading r) (text "LOADING")
+    (text "ACTIVE"))
 
--- state and KMCID; TVP and fingerprint of the KEK; TVP and fingerprint that a response is awaited for. A PENDING row holds the latter two, another row the fingerprint only:
--- what a row does not hold is the empty string, or no octets
+-- state and KMCID; TVP and fingerprint of the KEK; TVP and fingerprint that a response is awaited for. A PENDING row
+-- holds the latter two, another row the fingerprint only: what a row does not hold is the empty string, or no octets
 unfoldable pub slotFields : SlotRow → List Value
 slotFields r =
     string (stateText r)
@@ -51,6 +53,6 @@ registersUnder s rows = numbersFrom (isUnder s) 1 rows
 abbrev pub numberFields : List ℕ → List Value
 numberFields ns = map number ns
 
--- all that SM?KQ tells; never a card
+-- all fields of SM?KQ's reply; never a card
 unfoldable pub queryFields : SlotRow → List RegisterRow → List Value
 queryFields row registers = slotFields row ++ numberFields (registersUnder (kmcidOf row) registers)

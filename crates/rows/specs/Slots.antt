@@ -1,10 +1,12 @@
--- Slot rows (document 01, Slots and registers): what a row means, which is sound by itself, and how the states follow each other.
+-- Slot rows (document 01, Slots and registers): what a row means, which is sound by itself, and how the states follow
+-- each other.
 use Prim.Native.Nat.{ℕ}
 use mathlib.Core.Bool.{Bool, cond, not, _&&_, _||_}
-use mathlib.Core.List.{List, []}
+use mathlib.Core.List.{List, [], _∷_}
 use lib.Dec.{eqb, leb}
 use lib.ListN.{drop, replicate}
 use Rattle.octets.specs.Strings.{isNot, run, sameBytes}
+use Rattle.octets.specs.Texts.{all}
 use Rattle.text.specs.Classes.{areAll}
 use Rattle.text.specs.Identifiers.{isIdentifier}
 use Rattle.text.specs.declared.Class.the-variants.{Zero}
@@ -25,7 +27,12 @@ stateNumber Idle = 3
 
 -- every byte of the row is zero. Of sound rows these are the rows in state Free (`free-is-zero`, proofs/FreeSlots.antt)
 unfoldable pub isZeroSlot : SlotRow → Bool
-isZeroSlot r = eqb (r .state) 0 && (areAll Zero (r .kmcid) && (areAll Zero (r .fingerprint) && areAll Zero (r .tvp)))
+isZeroSlot r = all (
+    eqb (r .state) 0
+    ∷ areAll Zero (r .kmcid)
+    ∷ areAll Zero (r .fingerprint)
+    ∷ areAll Zero (r .tvp)
+    ∷ [])
 
 -- Free: of sound rows, those that are zero (`free-is-zero`)
 abbrev pub hasState : SlotState → SlotRow → Bool
@@ -41,14 +48,16 @@ isNamed s r = not (hasState Free r) && sameBytes (kmcidOf r) s
 
 -- a slot not free has a KMCID and a fingerprint, and only PENDING a TVP
 unfoldable pub isFilledSlot : SlotRow → Bool
-isFilledSlot r =
+isFilledSlot r = all (
     isIdentifier (kmcidOf r)
-    && (areAll Zero (drop (run (isNot 0) (r .kmcid)) (r .kmcid))
-    && (inForm (Hex 16) (r .fingerprint) && cond (hasState Pending r) (isTimestamp (r .tvp)) (areAll Zero (r .tvp))))
+    ∷ areAll Zero (drop (run (isNot 0) (r .kmcid)) (r .kmcid))  -- zero after the KMCID's end
+    ∷ inForm (Hex 16) (r .fingerprint)
+    ∷ cond (hasState Pending r) (isTimestamp (r .tvp)) (areAll Zero (r .tvp))  -- in the other states its place is zero
+    ∷ [])
 
 -- a slot row that is sound by itself: free and zero, or in one of the other three states and in form
 unfoldable pub isSlotSound : SlotRow → Bool
-isSlotSound r = isZeroSlot r || (leb 1 (r .state) && (leb (r .state) 3 && isFilledSlot r))
+isSlotSound r = isZeroSlot r || all (leb 1 (r .state) ∷ leb (r .state) 3 ∷ isFilledSlot r ∷ [])
 
 -- two rows that keep one KMCID
 unfoldable pub isSameSlot : SlotRow → SlotRow → Bool

@@ -1,6 +1,7 @@
 -- Question 3: are the rows sound?
-use mathlib.Core.Bool.{Bool, _&&_, _||_}
-use mathlib.Core.List.{List}
+use mathlib.Core.Bool.{Bool, _||_}
+use mathlib.Core.List.{List, [], _∷_}
+use Rattle.octets.specs.Texts.{all}
 use Rattle.attributes.specs.Table.{KSL}
 use Rattle.rows.specs.Lists.{everyRow, someRow, distinctRows}
 use Rattle.rows.specs.Slots.{isNamed, isSlotSound, isSameSlot}
@@ -12,10 +13,11 @@ use Rattle.rows.specs.declared.RegisterRow.{RegisterRow}
 unfoldable pub isOwned : List SlotRow → RegisterRow → Bool
 isOwned slots r = isVacant r || someRow (isNamed (attributeOf KSL r)) slots
 
--- slot fields in form and present just where the state has them, free rows zero; identifiers distinct; cards as stored, CLU 0 and VND in range among their forms;
--- SGC and KRN pairs distinct; each KSL a slot not free
 unfoldable pub areSound : List SlotRow → List RegisterRow → Bool
-areSound slots registers =
-    everyRow isSlotSound slots
-    && (distinctRows isSameSlot slots
-    && (everyRow isRegisterSound registers && (distinctRows isSameKey registers && everyRow (isOwned slots) registers)))
+areSound slots registers = all (
+    everyRow isSlotSound slots  -- slot fields in form and present just where the state has them, free rows zero
+    ∷ distinctRows isSameSlot slots  -- identifiers distinct
+    ∷ everyRow isRegisterSound registers  -- cards as stored, with CLU 0 and VND 0 to 999999999; free rows zero
+    ∷ distinctRows isSameKey registers  -- SGC and KRN pairs distinct
+    ∷ everyRow (isOwned slots) registers  -- each KSL a slot not free
+    ∷ [])

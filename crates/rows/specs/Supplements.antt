@@ -1,9 +1,10 @@
 -- Question 4: is the supplement, a term of document 01, well formed, all of it? (document 01, What the caller lends)
 use Prim.Native.Nat.{ℕ}
-use mathlib.Core.Bool.{Bool, _&&_}
-use mathlib.Core.List.{List}
+use mathlib.Core.Bool.{Bool}
+use mathlib.Core.List.{List, [], _∷_}
 use lib.Dec.{leb}
 use lib.ListN.{take}
+use Rattle.octets.specs.Texts.{all}
 use Rattle.text.specs.Classes.{areAll}
 use Rattle.text.specs.declared.Class.the-variants.{Text}
 use Rattle.timestamp.specs.Timestamps.{isTimestamp}
@@ -22,14 +23,26 @@ loadRequest x = take (x .«request_length») (x .request)
 
 -- parsed, and its fields in form
 unfoldable pub isIdentityRight : Supplement → Bool
-isIdentityRight x = leb (x .«identity_length») 128 && (isModuleIdentity (ownIdentity x) && identityInForm (ownIdentity x))
+isIdentityRight x = all (
+    leb (x .«identity_length») 128
+    ∷ isModuleIdentity (ownIdentity x)
+    ∷ identityInForm (ownIdentity x)
+    ∷ [])
 
 -- 1 to 700 bytes, each 20 to 7D hexadecimal; it is not parsed
 unfoldable pub isLoadRequestRight : Supplement → Bool
-isLoadRequestRight x = leb 1 (x .«request_length») && (leb (x .«request_length») 700 && areAll Text (loadRequest x))
+isLoadRequestRight x = all (
+    leb 1 (x .«request_length»)
+    ∷ leb (x .«request_length») 700
+    ∷ areAll Text (loadRequest x)
+    ∷ [])
 
--- the clock a timestamp, the tag 48 and the check value 6 hexadecimal digits, the yes or no one of the two
 unfoldable pub isWellFormed : Supplement → Bool
-isWellFormed x =
-    isTimestamp (x .clock)
-    && (isIdentityRight x && (isLoadRequestRight x && (inForm (Hex 48) (x .tag) && (inForm (Hex 6) (x .check) && leb (x .passed) 1))))
+isWellFormed x = all (
+    isTimestamp (x .clock)  -- the clock
+    ∷ isIdentityRight x  -- the module's own SMID.1 record
+    ∷ isLoadRequestRight x  -- a finished VKLOADREQ record
+    ∷ inForm (Hex 48) (x .tag)  -- the expected tag: 48 hexadecimal digits
+    ∷ inForm (Hex 6) (x .check)  -- a check value: 6 hexadecimal digits
+    ∷ leb (x .passed) 1  -- one yes or no: cryptographic check passed
+    ∷ [])

@@ -1,4 +1,5 @@
-// SM?KC and SM?KR, which open a session (document 01, "Questions in order", 8 and on): one function a command asks its questions in turn, and the first no decides.
+// SM?KC and SM?KR, which open a session (document 01, "Questions in order", 8 and on): one function a command asks its
+// questions in turn, and the first no decides.
 use cards::Found;
 use engine::Decision;
 use engine::Refusal;
@@ -17,9 +18,15 @@ ghost use Rattle.engine.specs.declared.Decision.the-variants.{Open};
 ghost use Rattle.command_questions.specs.CommandQuestions.{responseQuestions};
 
 // SM?KC.
-pub fn decide_pend(slots: [SlotRow; 8], n: usize, x: Supplement, payload: &[u8]) -> Decision
-    requires { ⌜ n ≤ 8 ⌝ }
-    ensures { λ d. ⌜ ((c : Call) → c .slots ≡ take n slots → c .supplement ≡ x → d ≡ decisionFor c KC (valuesOf (now (payload .entry)))) ⌝ }
+pub fn decide_pend(
+    slots: [SlotRow; 8],
+    slot_count: usize,
+    supplement: Supplement,
+    payload: &[u8],
+) -> Decision
+    requires { ⌜ «slot_count» ≤ 8 ⌝ }
+    ensures { λ d. ⌜ ((c : Call) → c .slots ≡ take «slot_count» slots → c .supplement ≡ supplement
+        → d ≡ decisionFor c KC (valuesOf (now (payload .entry)))) ⌝ }
 {
     let f = payloads::one_text(payload);
     let Found::At { start, end } = f else {
@@ -32,24 +39,24 @@ pub fn decide_pend(slots: [SlotRow; 8], n: usize, x: Supplement, payload: &[u8])
     if !record_forms::public_key_in_form(r) {
         return Decision::Refuse(Refusal::BadForm);
     }
-    if !record_tests::is_not_expired(r, &x.clock) {
+    if !record_tests::is_not_expired(r, &supplement.clock) {
         return Decision::Refuse(Refusal::Expired);
     }
-    let place = record_tests::session_place(slots, n, r);
+    let place = record_tests::session_place(slots, slot_count, r);
     let Place::At(k) = place else {
         return Decision::Refuse(Refusal::NoFreeSlot);
     };
-    if !record_tests::has_passed(x) {
+    if !record_tests::has_passed(supplement) {
         return Decision::Refuse(Refusal::CheckFailed);
     }
     Decision::Pend(k)
 }
 
 // SM?KR: question 15, of the slot in row k.
-fn decide_response(k: usize, row: SlotRow, x: Supplement, r: &[u8]) -> Decision
-    ensures { λ d. ⌜ d ≡ decided (firstNo (responseQuestions x (now (r .entry)) row)) (Open k) ⌝ }
+fn decide_response(k: usize, row: SlotRow, supplement: Supplement, r: &[u8]) -> Decision
+    ensures { λ d. ⌜ d ≡ decided (firstNo (responseQuestions supplement (now (r .entry)) row)) (Open k) ⌝ }
 {
-    if !record_tests::is_own_module(r, x) {
+    if !record_tests::is_own_module(r, supplement) {
         return Decision::Refuse(Refusal::OtherModule);
     }
     if !record_tests::has_fingerprint(r, row) {
@@ -58,16 +65,22 @@ fn decide_response(k: usize, row: SlotRow, x: Supplement, r: &[u8]) -> Decision
     if !record_tests::has_tvp(r, row) {
         return Decision::Refuse(Refusal::OtherTvp);
     }
-    if !record_tests::has_tag(r, x) {
+    if !record_tests::has_tag(r, supplement) {
         return Decision::Refuse(Refusal::OtherTag);
     }
     Decision::Open(k)
 }
 
 // SM?KR.
-pub fn decide_open(slots: [SlotRow; 8], n: usize, x: Supplement, payload: &[u8]) -> Decision
-    requires { ⌜ n ≤ 8 ⌝ }
-    ensures { λ d. ⌜ ((c : Call) → c .slots ≡ take n slots → c .supplement ≡ x → d ≡ decisionFor c KR (valuesOf (now (payload .entry)))) ⌝ }
+pub fn decide_open(
+    slots: [SlotRow; 8],
+    slot_count: usize,
+    supplement: Supplement,
+    payload: &[u8],
+) -> Decision
+    requires { ⌜ «slot_count» ≤ 8 ⌝ }
+    ensures { λ d. ⌜ ((c : Call) → c .slots ≡ take «slot_count» slots → c .supplement ≡ supplement
+        → d ≡ decisionFor c KR (valuesOf (now (payload .entry)))) ⌝ }
 {
     let f = payloads::one_text(payload);
     let Found::At { start, end } = f else {
@@ -80,7 +93,7 @@ pub fn decide_open(slots: [SlotRow; 8], n: usize, x: Supplement, payload: &[u8])
     if !record_forms::response_in_form(r) {
         return Decision::Refuse(Refusal::BadForm);
     }
-    let place = record_tests::known_place(slots, n, r);
+    let place = record_tests::known_place(slots, slot_count, r);
     let Place::At(k) = place else {
         return Decision::Refuse(Refusal::UnknownSlot);
     };
@@ -88,5 +101,5 @@ pub fn decide_open(slots: [SlotRow; 8], n: usize, x: Supplement, payload: &[u8])
     if !slot_tests::has_state(row, SlotState::Pending) {
         return Decision::Refuse(Refusal::WrongState);
     }
-    decide_response(k, row, x, r)
+    decide_response(k, row, supplement, r)
 }

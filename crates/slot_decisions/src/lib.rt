@@ -1,5 +1,5 @@
-// GL?RS, SM?GL, SM?KF, SM?KX and SM?KQ, the commands about slots that bring no record (document 01, "Questions in order", 8 and on): one function a command asks
-// its questions in turn, and the first no decides.
+// GL?RS, SM?GL, SM?KF, SM?KX and SM?KQ, the commands about slots that bring no record (document 01, "Questions in
+// order", 8 and on): one function a command asks its questions in turn, and the first no decides.
 use cards::Found;
 use command_questions::Asked;
 use engine::Decision;
@@ -40,15 +40,15 @@ pub fn decide_enumerate(payload: &[u8]) -> Decision
 }
 
 // The slot that the only field names.
-fn ask_slot(slots: [SlotRow; 8], n: usize, payload: &[u8]) -> Asked
-    requires { ⌜ n ≤ 8 ⌝ }
-    ensures { λ a. ⌜ a ≡ slotAsked (take n slots) (valuesOf (now (payload .entry))) ⌝ }
+fn ask_slot(slots: [SlotRow; 8], slot_count: usize, payload: &[u8]) -> Asked
+    requires { ⌜ «slot_count» ≤ 8 ⌝ }
+    ensures { λ a. ⌜ a ≡ slotAsked (take «slot_count» slots) (valuesOf (now (payload .entry))) ⌝ }
 {
     let f = payloads::one_text(payload);
     let Found::At { start, end } = f else {
         return Asked::No(Refusal::BadFields);
     };
-    let place = slot_tables::slot_place(slots, n, &payload[start..end]);
+    let place = slot_tables::slot_place(slots, slot_count, &payload[start..end]);
     let Place::At(k) = place else {
         return Asked::No(Refusal::UnknownSlot);
     };
@@ -56,11 +56,12 @@ fn ask_slot(slots: [SlotRow; 8], n: usize, payload: &[u8]) -> Asked
 }
 
 // SM?KF: the slot has a session.
-pub fn decide_finish(slots: [SlotRow; 8], n: usize, payload: &[u8]) -> Decision
-    requires { ⌜ n ≤ 8 ⌝ }
-    ensures { λ d. ⌜ ((c : Call) → c .slots ≡ take n slots → d ≡ decisionFor c KF (valuesOf (now (payload .entry)))) ⌝ }
+pub fn decide_finish(slots: [SlotRow; 8], slot_count: usize, payload: &[u8]) -> Decision
+    requires { ⌜ «slot_count» ≤ 8 ⌝ }
+    ensures { λ d. ⌜ ((c : Call) → c .slots ≡ take «slot_count» slots
+        → d ≡ decisionFor c KF (valuesOf (now (payload .entry)))) ⌝ }
 {
-    let asked = ask_slot(slots, n, payload);
+    let asked = ask_slot(slots, slot_count, payload);
     match asked {
         Asked::No(r) => Decision::Refuse(r),
         Asked::At(k) => {
@@ -74,11 +75,12 @@ pub fn decide_finish(slots: [SlotRow; 8], n: usize, payload: &[u8]) -> Decision
 }
 
 // SM?KX.
-pub fn decide_delete(slots: [SlotRow; 8], n: usize, payload: &[u8]) -> Decision
-    requires { ⌜ n ≤ 8 ⌝ }
-    ensures { λ d. ⌜ ((c : Call) → c .slots ≡ take n slots → d ≡ decisionFor c KX (valuesOf (now (payload .entry)))) ⌝ }
+pub fn decide_delete(slots: [SlotRow; 8], slot_count: usize, payload: &[u8]) -> Decision
+    requires { ⌜ «slot_count» ≤ 8 ⌝ }
+    ensures { λ d. ⌜ ((c : Call) → c .slots ≡ take «slot_count» slots
+        → d ≡ decisionFor c KX (valuesOf (now (payload .entry)))) ⌝ }
 {
-    let asked = ask_slot(slots, n, payload);
+    let asked = ask_slot(slots, slot_count, payload);
     match asked {
         Asked::No(r) => Decision::Refuse(r),
         Asked::At(k) => Decision::Delete(k),
@@ -86,11 +88,12 @@ pub fn decide_delete(slots: [SlotRow; 8], n: usize, payload: &[u8]) -> Decision
 }
 
 // SM?KQ.
-pub fn decide_query(slots: [SlotRow; 8], n: usize, payload: &[u8]) -> Decision
-    requires { ⌜ n ≤ 8 ⌝ }
-    ensures { λ d. ⌜ ((c : Call) → c .slots ≡ take n slots → d ≡ decisionFor c KQ (valuesOf (now (payload .entry)))) ⌝ }
+pub fn decide_query(slots: [SlotRow; 8], slot_count: usize, payload: &[u8]) -> Decision
+    requires { ⌜ «slot_count» ≤ 8 ⌝ }
+    ensures { λ d. ⌜ ((c : Call) → c .slots ≡ take «slot_count» slots
+        → d ≡ decisionFor c KQ (valuesOf (now (payload .entry)))) ⌝ }
 {
-    let asked = ask_slot(slots, n, payload);
+    let asked = ask_slot(slots, slot_count, payload);
     match asked {
         Asked::No(r) => Decision::Refuse(r),
         Asked::At(k) => Decision::Query(k),
