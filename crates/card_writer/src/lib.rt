@@ -7,14 +7,14 @@ use attributes::VND;
 ghost use mathlib.Core.Path.{_≡_};
 ghost use Prim.Native.Nat.{_+_, _≤_, _<_};
 ghost use lib.ListN.{length};
-ghost use Rattle.octets.specs.Wrote.{Wrote};
+ghost use Rattle.octets.specs.Wrote.{Writes};
 ghost use Rattle.cards.specs.Entries.{entryBytes};
 ghost use Rattle.stored_cards.specs.Stored.{defaultCard, storedValue, storedCard, inRow};
 
 // Writes an entry.
 fn put_entry(dst: &mut [u8], at: usize, name: u32, v: &[u8]) -> usize
     requires { ⌜ (name < 16777216) × (at + length (now v) + 4 ≤ length (now dst)) ⌝ }
-    ensures { λ r. ⌜ Wrote (now (dst .entry)) at (entryBytes name (now (v .entry))) (now (dst .exit)) r ⌝ }
+    ensures { λ r. ⌜ Writes dst at (entryBytes name (now (v .entry))) r ⌝ }
 {
     let n = [
         (name / 65536) as u8,
@@ -72,14 +72,13 @@ fn put_card<'a>(
 ) -> usize
     requires { ⌜ length (storedCard (now card) (record { clu = now clu; kcv = now kcv; ksl = now ksl; vnd = now vnd }))
         ≤ length (now dst) ⌝ }
-    ensures { λ r. ⌜ Wrote (now (dst .entry)) 0 (storedCard (now (card .entry))
+    ensures { λ r. ⌜ Writes dst 0 (storedCard (now (card .entry))
         (record {
           clu = now (clu .entry);
           kcv = now (kcv .entry);
           ksl = now (ksl .entry);
           vnd = now (vnd .entry);
-        }))
-        (now (dst .exit)) r ⌝ }
+        })) r ⌝ }
 {
     let default = b"CLMFFFFFFFF;IUT20380119T031407Z;SBMFFFF;ULM999999999;";
     let mut at = 0;

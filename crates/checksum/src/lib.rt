@@ -3,7 +3,7 @@ use hexadecimal::Hex4;
 ghost use mathlib.Core.Path.{_≡_};
 ghost use Prim.Native.Nat.{_+_, _-_, _≤_};
 ghost use lib.ListN.{length, take, drop};
-ghost use Rattle.octets.specs.Wrote.{Wrote};
+ghost use Rattle.octets.specs.Wrote.{Writes};
 ghost use Rattle.checksum.specs.Checksum.{sumOf, sumDigits, endsInSum};
 
 // Of which kind the CRC is: of a message, or of a record.
@@ -40,8 +40,7 @@ pub fn ends_in_sum(kind: Kind, bytes: &[u8]) -> bool
 // Writes the four digits of the bytes from a place up to `to` behind them, and answers the place after the digits.
 pub fn put_sum(kind: Kind, dst: &mut [u8], from: usize, to: usize) -> usize
     requires { ⌜ (from ≤ to) × (to + 4 ≤ length (now dst)) ⌝ }
-    ensures { λ r. ⌜ Wrote (now (dst .entry)) to (sumDigits kind (take (to - from) (drop from (now (dst .entry)))))
-        (now (dst .exit)) r ⌝ }
+    ensures { λ r. ⌜ Writes dst to (sumDigits kind (take (to - from) (drop from (now (dst .entry))))) r ⌝ }
     ensures short { λ r. ⌜ r ≡ to + 4 ⌝ }
 {
     let c = sum_of(kind, &dst[from..to]);

@@ -3,14 +3,13 @@ ghost use mathlib.Core.List.{_++_};
 ghost use Prim.Native.Nat.{_+_, _≤_};
 ghost use lib.ListN.{length};
 ghost use Rattle.octets.specs.Texts.{text};
-ghost use Rattle.octets.specs.Wrote.{Wrote};
+ghost use Rattle.octets.specs.Wrote.{Writes};
 ghost use Rattle.console_answers.specs.Answers.{replyText, answerLine, usableLine, otherLine};
 
 // Writes a response without its carriage return, or - for none, and a line feed.
 fn put_reply(dst: &mut [u8], at: usize, response: &[u8]) -> usize
     requires { ⌜ at + length (now response) + 2 ≤ length (now dst) ⌝ }
-    ensures { λ r. ⌜ Wrote (now (dst .entry)) at (replyText (now (response .entry)) ++ text "\n")
-        (now (dst .exit)) r ⌝ }
+    ensures { λ r. ⌜ Writes dst at (replyText (now (response .entry)) ++ text "\n") r ⌝ }
     ensures short { λ r. ⌜ r ≤ at + length (now (response .entry)) + 2 ⌝ }
 {
     let n = response.len();
@@ -23,8 +22,7 @@ fn put_reply(dst: &mut [u8], at: usize, response: &[u8]) -> usize
 // The line that answers a request, by the outcome's number and that of the slot state left, or 255.
 pub fn put_answer(dst: &mut [u8], number: u64, outcome: u8, left: u8, response: &[u8]) -> usize
     requires { ⌜ length (now response) + 42 ≤ length (now dst) ⌝ }
-    ensures { λ r. ⌜ Wrote (now (dst .entry)) 0 (answerLine number outcome left (now (response .entry)))
-        (now (dst .exit)) r ⌝ }
+    ensures { λ r. ⌜ Writes dst 0 (answerLine number outcome left (now (response .entry))) r ⌝ }
     ensures fits { λ r. ⌜ r ≤ length (now (dst .entry)) ⌝ }
 {
     let a = console_prints::put_long(dst, 0, number);
@@ -36,7 +34,7 @@ pub fn put_answer(dst: &mut [u8], number: u64, outcome: u8, left: u8, response: 
 // The line that says whether a key may vend.
 pub fn put_usable(dst: &mut [u8], number: u64, yes: bool) -> usize
     requires { ⌜ 42 ≤ length (now dst) ⌝ }
-    ensures { λ r. ⌜ Wrote (now (dst .entry)) 0 (usableLine number yes) (now (dst .exit)) r ⌝ }
+    ensures { λ r. ⌜ Writes dst 0 (usableLine number yes) r ⌝ }
     ensures fits { λ r. ⌜ r ≤ length (now (dst .entry)) ⌝ }
 {
     let end = console_prints::put_long(dst, 0, number);
@@ -49,7 +47,7 @@ pub fn put_usable(dst: &mut [u8], number: u64, yes: bool) -> usize
 // The line that answers a line of no form.
 pub fn put_other(dst: &mut [u8], number: u64) -> usize
     requires { ⌜ 42 ≤ length (now dst) ⌝ }
-    ensures { λ r. ⌜ Wrote (now (dst .entry)) 0 (otherLine number) (now (dst .exit)) r ⌝ }
+    ensures { λ r. ⌜ Writes dst 0 (otherLine number) r ⌝ }
     ensures fits { λ r. ⌜ r ≤ length (now (dst .entry)) ⌝ }
 {
     let at = console_prints::put_long(dst, 0, number);

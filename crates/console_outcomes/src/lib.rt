@@ -3,7 +3,7 @@ use engine::Outcome;
 ghost use mathlib.Core.Path.{_≡_};
 ghost use Prim.Native.Nat.{_+_, _≤_};
 ghost use lib.ListN.{length};
-ghost use Rattle.octets.specs.Wrote.{Wrote};
+ghost use Rattle.octets.specs.Wrote.{Writes};
 ghost use Rattle.console_outcomes.specs.Outcomes.{leftNumber, outcomeLine};
 
 // The number of the slot state that an outcome carries, or 255.
@@ -20,8 +20,7 @@ fn left_number(outcome: Outcome) -> u8
 // The line that answers a request.
 pub fn put_outcome(dst: &mut [u8], number: u64, outcome: Outcome, response: &[u8]) -> usize
     requires { ⌜ length (now response) + 42 ≤ length (now dst) ⌝ }
-    ensures { λ r. ⌜ Wrote (now (dst .entry)) 0 (outcomeLine number outcome (now (response .entry)))
-        (now (dst .exit)) r ⌝ }
+    ensures { λ r. ⌜ Writes dst 0 (outcomeLine number outcome (now (response .entry))) r ⌝ }
     ensures fits { λ r. ⌜ r ≤ length (now (dst .entry)) ⌝ }
 {
     let n = refusal_numbers::outcome_number(outcome);

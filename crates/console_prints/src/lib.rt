@@ -5,13 +5,13 @@ ghost use mathlib.Core.List.{_++_};
 ghost use Prim.Native.Nat.{_+_, _≤_};
 ghost use lib.ListN.{length};
 ghost use Rattle.octets.specs.Texts.{text};
-ghost use Rattle.octets.specs.Wrote.{Wrote};
+ghost use Rattle.octets.specs.Wrote.{Writes};
 ghost use Rattle.decimal_writer.specs.Digits.{decimalBytes, longBytes};
 
 // Writes a word and a space.
 pub fn put_word(dst: &mut [u8], at: usize, word: &[u8]) -> usize
     requires { ⌜ at + length (now word) + 1 ≤ length (now dst) ⌝ }
-    ensures { λ r. ⌜ Wrote (now (dst .entry)) at (now (word .entry) ++ text " ") (now (dst .exit)) r ⌝ }
+    ensures { λ r. ⌜ Writes dst at (now (word .entry) ++ text " ") r ⌝ }
     ensures short { λ r. ⌜ r ≡ at + length (now (word .entry)) + 1 ⌝ }
 {
     let space = octets::put(dst, at, word);
@@ -21,7 +21,7 @@ pub fn put_word(dst: &mut [u8], at: usize, word: &[u8]) -> usize
 // Writes the last word and a line feed.
 pub fn put_last(dst: &mut [u8], at: usize, word: &[u8]) -> usize
     requires { ⌜ at + length (now word) + 1 ≤ length (now dst) ⌝ }
-    ensures { λ r. ⌜ Wrote (now (dst .entry)) at (now (word .entry) ++ text "\n") (now (dst .exit)) r ⌝ }
+    ensures { λ r. ⌜ Writes dst at (now (word .entry) ++ text "\n") r ⌝ }
     ensures short { λ r. ⌜ r ≡ at + length (now (word .entry)) + 1 ⌝ }
 {
     let feed = octets::put(dst, at, word);
@@ -31,7 +31,7 @@ pub fn put_last(dst: &mut [u8], at: usize, word: &[u8]) -> usize
 // Writes a number and a space.
 pub fn put_number(dst: &mut [u8], at: usize, number: u32) -> usize
     requires { ⌜ at + 11 ≤ length (now dst) ⌝ }
-    ensures { λ r. ⌜ Wrote (now (dst .entry)) at (decimalBytes number ++ text " ") (now (dst .exit)) r ⌝ }
+    ensures { λ r. ⌜ Writes dst at (decimalBytes number ++ text " ") r ⌝ }
     ensures short { λ r. ⌜ r ≤ at + 11 ⌝ }
 {
     let end = decimal_writer::put_decimal(dst, at, number);
@@ -41,7 +41,7 @@ pub fn put_number(dst: &mut [u8], at: usize, number: u32) -> usize
 // Writes a number of any size and a space.
 pub fn put_long(dst: &mut [u8], at: usize, number: u64) -> usize
     requires { ⌜ at + 21 ≤ length (now dst) ⌝ }
-    ensures { λ r. ⌜ Wrote (now (dst .entry)) at (longBytes number ++ text " ") (now (dst .exit)) r ⌝ }
+    ensures { λ r. ⌜ Writes dst at (longBytes number ++ text " ") r ⌝ }
     ensures short { λ r. ⌜ r ≤ at + 21 ⌝ }
 {
     let end = decimal_writer::put_long(dst, at, number);

@@ -5,7 +5,7 @@ ghost use mathlib.Core.Path.{_≡_};
 ghost use mathlib.Core.List.{[], _∷_, _++_};
 ghost use Prim.Native.Nat.{_+_, _≤_, _<_};
 ghost use lib.ListN.{length};
-ghost use Rattle.octets.specs.Wrote.{Wrote};
+ghost use Rattle.octets.specs.Wrote.{Writes};
 ghost use Rattle.hex_octets.specs.Octets.{digitsOf};
 ghost use Rattle.console_prints.specs.Prints.{lineBytes};
 ghost use Rattle.console_row_lines.specs.OneRow.{slotLine, registerLine};
@@ -13,7 +13,7 @@ ghost use Rattle.console_row_lines.specs.OneRow.{slotLine, registerLine}
 // Writes the digits of s and the byte that stands after them.
 fn put_digits(dst: &mut [u8], at: usize, s: &[u8], after: u8) -> usize
     requires { ⌜ at + (length (now s) + length (now s)) + 1 ≤ length (now dst) ⌝ }
-    ensures { λ r. ⌜ Wrote (now (dst .entry)) at (digitsOf (now (s .entry)) ++ (after ∷ [])) (now (dst .exit)) r ⌝ }
+    ensures { λ r. ⌜ Writes dst at (digitsOf (now (s .entry)) ++ (after ∷ [])) r ⌝ }
     ensures short { λ r. ⌜ r ≡ at + (length (now (s .entry)) + length (now (s .entry))) + 1 ⌝ }
 {
     let end = hex_octets::put_digits(dst, at, s);
@@ -23,9 +23,8 @@ fn put_digits(dst: &mut [u8], at: usize, s: &[u8], after: u8) -> usize
 // The last three words of a slot row's line.
 fn put_fields(dst: &mut [u8], at: usize, row: SlotRow) -> usize
     requires { ⌜ at + 147 ≤ length (now dst) ⌝ }
-    ensures { λ r. ⌜ Wrote (now (dst .entry)) at
-        (lineBytes (digitsOf (row .kmcid) ∷ digitsOf (row .fingerprint) ∷ digitsOf (row .tvp) ∷ []))
-        (now (dst .exit)) r ⌝ }
+    ensures { λ r. ⌜ Writes dst at
+        (lineBytes (digitsOf (row .kmcid) ∷ digitsOf (row .fingerprint) ∷ digitsOf (row .tvp) ∷ [])) r ⌝ }
     ensures short { λ r. ⌜ r ≤ at + 147 ⌝ }
 {
     let a = put_digits(dst, at, &row.kmcid, b' ');
@@ -36,7 +35,7 @@ fn put_fields(dst: &mut [u8], at: usize, row: SlotRow) -> usize
 // One slot row in the form of a line, of a row that is all zero nothing; `index` counts from 0.
 pub fn put_slot(dst: &mut [u8], at: usize, index: usize, row: SlotRow) -> usize
     requires { ⌜ (index < 8) × (at + 180 ≤ length (now dst)) ⌝ }
-    ensures { λ r. ⌜ Wrote (now (dst .entry)) at (slotLine index row) (now (dst .exit)) r ⌝ }
+    ensures { λ r. ⌜ Writes dst at (slotLine index row) r ⌝ }
     ensures short { λ r. ⌜ r ≤ at + 180 ⌝ }
 {
     if slot_forms::is_zero_slot(row) {
@@ -51,7 +50,7 @@ pub fn put_slot(dst: &mut [u8], at: usize, index: usize, row: SlotRow) -> usize
 // One register row in the form of a line, of a free one nothing; `index` counts from 0.
 pub fn put_register(dst: &mut [u8], at: usize, index: usize, row: RegisterRow) -> usize
     requires { ⌜ (index < 32) × (at + 533 ≤ length (now dst)) ⌝ }
-    ensures { λ r. ⌜ Wrote (now (dst .entry)) at (registerLine index row) (now (dst .exit)) r ⌝ }
+    ensures { λ r. ⌜ Writes dst at (registerLine index row) r ⌝ }
     ensures short { λ r. ⌜ r ≤ at + 533 ⌝ }
 {
     if register_rows::is_vacant(row) {

@@ -4,12 +4,12 @@ use rows::SlotRow;
 use rows::Tables;
 ghost use Prim.Native.Nat.{_+_, _≤_};
 ghost use lib.ListN.{length};
-ghost use Rattle.octets.specs.Wrote.{Wrote};
+ghost use Rattle.octets.specs.Wrote.{Writes};
 ghost use Rattle.console_rows.specs.Rows.{slotLines, registerLines, rowLines};
 
 fn put_slots(dst: &mut [u8], slots: [SlotRow; 8]) -> usize
     requires { ⌜ 1440 ≤ length (now dst) ⌝ }
-    ensures { λ r. ⌜ Wrote (now (dst .entry)) 0 (slotLines slots) (now (dst .exit)) r ⌝ }
+    ensures { λ r. ⌜ Writes dst 0 (slotLines slots) r ⌝ }
     ensures short { λ r. ⌜ r ≤ 1440 ⌝ }
 {
     let mut end = 0;
@@ -24,7 +24,7 @@ fn put_slots(dst: &mut [u8], slots: [SlotRow; 8]) -> usize
 
 fn put_registers(dst: &mut [u8], at: usize, registers: [RegisterRow; 32]) -> usize
     requires { ⌜ at + 17056 ≤ length (now dst) ⌝ }
-    ensures { λ r. ⌜ Wrote (now (dst .entry)) at (registerLines registers) (now (dst .exit)) r ⌝ }
+    ensures { λ r. ⌜ Writes dst at (registerLines registers) r ⌝ }
     ensures short { λ r. ⌜ r ≤ at + 17056 ⌝ }
 {
     let mut end = at;
@@ -40,7 +40,7 @@ fn put_registers(dst: &mut [u8], at: usize, registers: [RegisterRow; 32]) -> usi
 // Each row that is not all zero, in the form of the line that sets it.
 pub fn put_rows(dst: &mut [u8], tables: Tables) -> usize
     requires { ⌜ 18496 ≤ length (now dst) ⌝ }
-    ensures { λ r. ⌜ Wrote (now (dst .entry)) 0 (rowLines tables) (now (dst .exit)) r ⌝ }
+    ensures { λ r. ⌜ Writes dst 0 (rowLines tables) r ⌝ }
     ensures fits { λ r. ⌜ r ≤ length (now (dst .entry)) ⌝ }
 {
     let slots = tables.slots;

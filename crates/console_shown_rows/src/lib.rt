@@ -6,7 +6,7 @@ ghost use mathlib.Core.List.{[], _∷_, _++_};
 ghost use Prim.Native.Nat.{_+_, _≤_, _<_};
 ghost use lib.ListN.{length};
 ghost use Rattle.octets.specs.Texts.{text};
-ghost use Rattle.octets.specs.Wrote.{Wrote};
+ghost use Rattle.octets.specs.Wrote.{Writes};
 ghost use Rattle.console_prints.specs.Prints.{lineBytes};
 ghost use Rattle.console_text.specs.Texts.{shown};
 ghost use Rattle.console_shown_rows.specs.OneRow.{usableShown, slotShown, registerShown, countsShown};
@@ -14,9 +14,8 @@ ghost use Rattle.console_shown_rows.specs.OneRow.{usableShown, slotShown
 // The last three words of a slot row's line.
 fn put_fields(dst: &mut [u8], at: usize, row: SlotRow) -> usize
     requires { ⌜ at + 78 ≤ length (now dst) ⌝ }
-    ensures { λ r. ⌜ Wrote (now (dst .entry)) at
-        (lineBytes (shown (row .kmcid) ∷ shown (row .fingerprint) ∷ shown (row .tvp) ∷ []))
-        (now (dst .exit)) r ⌝ }
+    ensures { λ r. ⌜ Writes dst at
+        (lineBytes (shown (row .kmcid) ∷ shown (row .fingerprint) ∷ shown (row .tvp) ∷ [])) r ⌝ }
     ensures short { λ r. ⌜ r ≤ at + 78 ⌝ }
 {
     let a = console_text::put_shown(dst, at, &row.kmcid, b' ');
@@ -27,7 +26,7 @@ fn put_fields(dst: &mut [u8], at: usize, row: SlotRow) -> usize
 // One slot row, of a row that is all zero nothing; `index` counts from 0.
 pub fn put_slot(dst: &mut [u8], at: usize, index: usize, row: SlotRow) -> usize
     requires { ⌜ (index < 8) × (at + 105 ≤ length (now dst)) ⌝ }
-    ensures { λ r. ⌜ Wrote (now (dst .entry)) at (slotShown index row) (now (dst .exit)) r ⌝ }
+    ensures { λ r. ⌜ Writes dst at (slotShown index row) r ⌝ }
     ensures short { λ r. ⌜ r ≤ at + 105 ⌝ }
 {
     if slot_forms::is_zero_slot(row) {
@@ -41,7 +40,7 @@ pub fn put_slot(dst: &mut [u8], at: usize, index: usize, row: SlotRow) -> usize
 
 fn put_usable(dst: &mut [u8], at: usize, yes: bool) -> usize
     requires { ⌜ at + 9 ≤ length (now dst) ⌝ }
-    ensures { λ r. ⌜ Wrote (now (dst .entry)) at (usableShown yes ++ text " ") (now (dst .exit)) r ⌝ }
+    ensures { λ r. ⌜ Writes dst at (usableShown yes ++ text " ") r ⌝ }
     ensures short { λ r. ⌜ r ≤ at + 9 ⌝ }
 {
     if yes {
@@ -53,7 +52,7 @@ fn put_usable(dst: &mut [u8], at: usize, yes: bool) -> usize
 // One register row, of a free one nothing; `index` counts from 0, and `yes` is whether its key may vend.
 pub fn put_register(dst: &mut [u8], at: usize, index: usize, yes: bool, row: RegisterRow) -> usize
     requires { ⌜ (index < 32) × (at + 290 ≤ length (now dst)) ⌝ }
-    ensures { λ r. ⌜ Wrote (now (dst .entry)) at (registerShown yes index row) (now (dst .exit)) r ⌝ }
+    ensures { λ r. ⌜ Writes dst at (registerShown yes index row) r ⌝ }
     ensures short { λ r. ⌜ r ≤ at + 290 ⌝ }
 {
     if register_rows::is_vacant(row) {
@@ -67,7 +66,7 @@ pub fn put_register(dst: &mut [u8], at: usize, index: usize, yes: bool, row: Reg
 
 pub fn put_counts(dst: &mut [u8], tables: Tables) -> usize
     requires { ⌜ 80 ≤ length (now dst) ⌝ }
-    ensures { λ r. ⌜ Wrote (now (dst .entry)) 0 (countsShown tables) (now (dst .exit)) r ⌝ }
+    ensures { λ r. ⌜ Writes dst 0 (countsShown tables) r ⌝ }
     ensures short { λ r. ⌜ r ≤ 80 ⌝ }
 {
     let a = console_prints::put_long(dst, 0, tables.slot_count as u64);

@@ -3,14 +3,13 @@ ghost use mathlib.Core.List.{_++_};
 ghost use Prim.Native.Nat.{_+_, _≤_};
 ghost use lib.ListN.{length};
 ghost use Rattle.octets.specs.Texts.{text};
-ghost use Rattle.octets.specs.Wrote.{Wrote};
+ghost use Rattle.octets.specs.Wrote.{Writes};
 ghost use Rattle.console_states.specs.States.{stateName};
 
 // Writes the name of a state's number, or `other` for the number of no state, and a space.
 pub fn put_state(dst: &mut [u8], at: usize, state: u8, other: &[u8]) -> usize
     requires { ⌜ (at + 8 ≤ length (now dst)) × (length (now other) ≤ 7) ⌝ }
-    ensures { λ r. ⌜ Wrote (now (dst .entry)) at (stateName (now (other .entry)) state ++ text " ")
-        (now (dst .exit)) r ⌝ }
+    ensures { λ r. ⌜ Writes dst at (stateName (now (other .entry)) state ++ text " ") r ⌝ }
     ensures short { λ r. ⌜ r ≤ at + 8 ⌝ }
 {
     match state {

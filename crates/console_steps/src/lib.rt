@@ -5,14 +5,14 @@ use console_state::Console;
 ghost use mathlib.Core.Path.{_≡_};
 ghost use Prim.Native.Nat.{_≤_};
 ghost use lib.ListN.{length};
-ghost use Rattle.octets.specs.Wrote.{Wrote};
+ghost use Rattle.octets.specs.Wrote.{Writes};
 ghost use Rattle.console_words.specs.Words.{rest};
 ghost use Rattle.console_steps.specs.Steps.{said, asked, after, Says};
 
 // What a line that hands nothing in prints.
 fn say(console: Console, number: u64, line: Line, out: &mut [u8]) -> usize
     requires { ⌜ 20480 ≤ length (now out) ⌝ }
-    ensures { λ n. ⌜ Wrote (now (out .entry)) 0 (said console number line) (now (out .exit)) n ⌝ }
+    ensures { λ n. ⌜ Writes out 0 (said console number line) n ⌝ }
     ensures fits { λ n. ⌜ n ≤ length (now (out .entry)) ⌝ }
 {
     match line {

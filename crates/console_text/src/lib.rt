@@ -5,13 +5,13 @@ ghost use mathlib.Core.Path.{_≡_};
 ghost use mathlib.Core.List.{[], _∷_, _++_, map};
 ghost use Prim.Native.Nat.{_+_, _≤_, _<_};
 ghost use lib.ListN.{length};
-ghost use Rattle.octets.specs.Wrote.{Wrote};
+ghost use Rattle.octets.specs.Wrote.{Writes};
 ghost use Rattle.console_text.specs.Texts.{legible, shown};
 
 // Writes a byte that is text, and a full stop for another.
 fn put_legible(dst: &mut [u8], at: usize, b: u8) -> usize
     requires { ⌜ at < length (now dst) ⌝ }
-    ensures { λ r. ⌜ Wrote (now (dst .entry)) at (legible b ∷ []) (now (dst .exit)) r ⌝ }
+    ensures { λ r. ⌜ Writes dst at (legible b ∷ []) r ⌝ }
 {
     if text::is_of(Class::Text, b) {
         return octets::put_byte(dst, at, b);
@@ -21,7 +21,7 @@ fn put_legible(dst: &mut [u8], at: usize, b: u8) -> usize
 
 fn put_text(dst: &mut [u8], at: usize, s: &[u8]) -> usize
     requires { ⌜ at + length (now s) ≤ length (now dst) ⌝ }
-    ensures { λ r. ⌜ Wrote (now (dst .entry)) at (map legible (now (s .entry))) (now (dst .exit)) r ⌝ }
+    ensures { λ r. ⌜ Writes dst at (map legible (now (s .entry))) r ⌝ }
     ensures short { λ r. ⌜ r ≡ at + length (now (s .entry)) ⌝ }
 {
     let mut end = at;
@@ -36,7 +36,7 @@ fn put_text(dst: &mut [u8], at: usize, s: &[u8]) -> usize
 // Writes bytes as text and the byte that stands after it.
 pub fn put_shown(dst: &mut [u8], at: usize, bytes: &[u8], after: u8) -> usize
     requires { ⌜ at + length (now bytes) + 2 ≤ length (now dst) ⌝ }
-    ensures { λ r. ⌜ Wrote (now (dst .entry)) at (shown (now (bytes .entry)) ++ (after ∷ [])) (now (dst .exit)) r ⌝ }
+    ensures { λ r. ⌜ Writes dst at (shown (now (bytes .entry)) ++ (after ∷ [])) r ⌝ }
     ensures short { λ r. ⌜ r ≤ at + length (now (bytes .entry)) + 2 ⌝ }
 {
     let kept = slot_tests::trimmed(bytes);

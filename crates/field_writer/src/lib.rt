@@ -2,13 +2,13 @@
 ghost use Prim.Native.Nat.{_+_, _≤_};
 ghost use mathlib.Core.Path.{_≡_};
 ghost use lib.ListN.{length};
-ghost use Rattle.octets.specs.Wrote.{Wrote};
+ghost use Rattle.octets.specs.Wrote.{Writes};
 ghost use Rattle.fields.specs.Values.{number, string, date, octets, contentBytes, fieldBytes};
 
 // Writes a field of a type with its content, and answers the place after it.
 fn put_content(dst: &mut [u8], at: usize, kind: u8, v: &[u8]) -> usize
     requires { ⌜ at + length (now v) + 2 ≤ length (now dst) ⌝ }
-    ensures { λ r. ⌜ Wrote (now (dst .entry)) at (contentBytes kind (now (v .entry))) (now (dst .exit)) r ⌝ }
+    ensures { λ r. ⌜ Writes dst at (contentBytes kind (now (v .entry))) r ⌝ }
     ensures short { λ r. ⌜ r ≡ at + length (now (v .entry)) + 2 ⌝ }
 {
     let a = octets::put_byte(dst, at, kind);
@@ -19,7 +19,7 @@ fn put_content(dst: &mut [u8], at: usize, kind: u8, v: &[u8]) -> usize
 // Writes a number, and answers the place after it.
 pub fn put_number(dst: &mut [u8], at: usize, value: u32) -> usize
     requires { ⌜ at + 12 ≤ length (now dst) ⌝ }
-    ensures { λ r. ⌜ Wrote (now (dst .entry)) at (fieldBytes (number value)) (now (dst .exit)) r ⌝ }
+    ensures { λ r. ⌜ Writes dst at (fieldBytes (number value)) r ⌝ }
     ensures short { λ r. ⌜ r ≤ at + 12 ⌝ }
 {
     let a = octets::put_byte(dst, at, b'N');
@@ -30,7 +30,7 @@ pub fn put_number(dst: &mut [u8], at: usize, value: u32) -> usize
 // Writes a string, and answers the place after it.
 pub fn put_string(dst: &mut [u8], at: usize, value: &[u8]) -> usize
     requires { ⌜ at + length (now value) + 2 ≤ length (now dst) ⌝ }
-    ensures { λ r. ⌜ Wrote (now (dst .entry)) at (fieldBytes (string (now (value .entry)))) (now (dst .exit)) r ⌝ }
+    ensures { λ r. ⌜ Writes dst at (fieldBytes (string (now (value .entry)))) r ⌝ }
     ensures short { λ r. ⌜ r ≡ at + length (now (value .entry)) + 2 ⌝ }
 {
     put_content(dst, at, b'P', value)
@@ -39,7 +39,7 @@ pub fn put_string(dst: &mut [u8], at: usize, value: &[u8]) -> usize
 // Writes a date of fourteen digits, and answers the place after it.
 pub fn put_date(dst: &mut [u8], at: usize, value: &[u8]) -> usize
     requires { ⌜ at + length (now value) + 2 ≤ length (now dst) ⌝ }
-    ensures { λ r. ⌜ Wrote (now (dst .entry)) at (fieldBytes (date (now (value .entry)))) (now (dst .exit)) r ⌝ }
+    ensures { λ r. ⌜ Writes dst at (fieldBytes (date (now (value .entry)))) r ⌝ }
     ensures short { λ r. ⌜ r ≡ at + length (now (value .entry)) + 2 ⌝ }
 {
     put_content(dst, at, b'D', value)
@@ -48,7 +48,7 @@ pub fn put_date(dst: &mut [u8], at: usize, value: &[u8]) -> usize
 // Writes hex octets by their digits, and answers the place after them.
 pub fn put_octets(dst: &mut [u8], at: usize, value: &[u8]) -> usize
     requires { ⌜ at + length (now value) + 2 ≤ length (now dst) ⌝ }
-    ensures { λ r. ⌜ Wrote (now (dst .entry)) at (fieldBytes (octets (now (value .entry)))) (now (dst .exit)) r ⌝ }
+    ensures { λ r. ⌜ Writes dst at (fieldBytes (octets (now (value .entry)))) r ⌝ }
     ensures short { λ r. ⌜ r ≡ at + length (now (value .entry)) + 2 ⌝ }
 {
     put_content(dst, at, b'H', value)

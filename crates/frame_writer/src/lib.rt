@@ -4,15 +4,14 @@ use checksum::Kind;
 ghost use mathlib.Core.Path.{_≡_};
 ghost use Prim.Native.Nat.{_+_, _≤_};
 ghost use lib.ListN.{length, take};
-ghost use Rattle.octets.specs.Wrote.{Wrote};
+ghost use Rattle.octets.specs.Wrote.{Writes};
 ghost use Rattle.frames.specs.Frames.{ending, headBytes};
 
 // Writes the head of a response from the start on: the header with ! for ?, and the status. Answers the place after
 // it.
 pub fn put_head(dst: &mut [u8], header: &[u8], status: &[u8]) -> usize
     requires { ⌜ (3 ≤ length (now header)) × (length (now header) + length (now status) ≤ length (now dst)) ⌝ }
-    ensures { λ r. ⌜ Wrote (now (dst .entry)) 0 (headBytes (now (header .entry)) (now (status .entry)))
-        (now (dst .exit)) r ⌝ }
+    ensures { λ r. ⌜ Writes dst 0 (headBytes (now (header .entry)) (now (status .entry))) r ⌝ }
     ensures short { λ r. ⌜ r ≡ length (now (header .entry)) + length (now (status .entry)) ⌝ }
 {
     let a = octets::put(dst, 0, &header[0..2]);
@@ -24,7 +23,7 @@ pub fn put_head(dst: &mut [u8], header: &[u8], status: &[u8]) -> usize
 // Ends the message of the bytes before a place: checksum and carriage return. Answers the place after them.
 pub fn close_message(dst: &mut [u8], end: usize) -> usize
     requires { ⌜ end + 5 ≤ length (now dst) ⌝ }
-    ensures { λ r. ⌜ Wrote (now (dst .entry)) end (ending (take end (now (dst .entry)))) (now (dst .exit)) r ⌝ }
+    ensures { λ r. ⌜ Writes dst end (ending (take end (now (dst .entry)))) r ⌝ }
     ensures short { λ r. ⌜ r ≡ end + 5 ⌝ }
 {
     let a = checksum::put_sum(Kind::Arc, dst, 0, end);

@@ -3,13 +3,13 @@ ghost use mathlib.Core.Path.{_≡_};
 ghost use mathlib.Core.List.{[], _∷_};
 ghost use Prim.Native.Nat.{_+_, _≤_};
 ghost use lib.ListN.{length};
-ghost use Rattle.octets.specs.Wrote.{Wrote};
+ghost use Rattle.octets.specs.Wrote.{Writes};
 ghost use Rattle.hex_octets.specs.Octets.{octetOf, digitsOf, octetsOf};
 
 // Writes the two digits of b, and answers the place after them.
 fn put_octet(dst: &mut [u8], at: usize, b: u8) -> usize
     requires { ⌜ at + 2 ≤ length (now dst) ⌝ }
-    ensures { λ r. ⌜ Wrote (now (dst .entry)) at (digitsOf (b ∷ [])) (now (dst .exit)) r ⌝ }
+    ensures { λ r. ⌜ Writes dst at (digitsOf (b ∷ [])) r ⌝ }
 {
     let o = octets::put_byte(dst, at, hexadecimal::hex_digit((b / 16) as u16));
     octets::put_byte(dst, o, hexadecimal::hex_digit((b % 16) as u16))
@@ -18,7 +18,7 @@ fn put_octet(dst: &mut [u8], at: usize, b: u8) -> usize
 // Writes the digits of the bytes, and answers the place after them.
 pub fn put_digits(dst: &mut [u8], at: usize, bytes: &[u8]) -> usize
     requires { ⌜ at + (length (now bytes) + length (now bytes)) ≤ length (now dst) ⌝ }
-    ensures { λ r. ⌜ Wrote (now (dst .entry)) at (digitsOf (now (bytes .entry))) (now (dst .exit)) r ⌝ }
+    ensures { λ r. ⌜ Writes dst at (digitsOf (now (bytes .entry))) r ⌝ }
     ensures short { λ r. ⌜ r ≡ at + (length (now (bytes .entry)) + length (now (bytes .entry))) ⌝ }
 {
     let mut o = at;
@@ -40,7 +40,7 @@ fn octet_of(a: u8, b: u8) -> u8
 // Writes the octets of the digits from the start on, and answers how many there are.
 pub fn put_octets(dst: &mut [u8], digits: &[u8]) -> usize
     requires { ⌜ length (now digits) ≤ length (now dst) + length (now dst) ⌝ }
-    ensures { λ r. ⌜ Wrote (now (dst .entry)) 0 (octetsOf (now (digits .entry))) (now (dst .exit)) r ⌝ }
+    ensures { λ r. ⌜ Writes dst 0 (octetsOf (now (digits .entry))) r ⌝ }
     ensures fits { λ r. ⌜ r ≤ length (now (dst .entry)) ⌝ }
 {
     let mut n = 0;

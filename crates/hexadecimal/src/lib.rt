@@ -2,7 +2,7 @@
 ghost use mathlib.Core.Path.{_≡_};
 ghost use Prim.Native.Nat.{_+_, _≤_, _<_};
 ghost use lib.ListN.{length};
-ghost use Rattle.octets.specs.Wrote.{Wrote};
+ghost use Rattle.octets.specs.Wrote.{Writes};
 ghost use Rattle.hexadecimal.specs.Hex.{hexDigit, hexValue, hex4, fromDigits, readHex4};
 
 // What four bytes are read as.
@@ -44,7 +44,7 @@ pub fn hex_value(digit: u8) -> u16
 // Writes a number as four digits, and answers the place after them.
 pub fn put_hex4(dst: &mut [u8], at: usize, number: u16) -> usize
     requires { ⌜ at + 4 ≤ length (now dst) ⌝ }
-    ensures { λ r. ⌜ Wrote (now (dst .entry)) at (hex4 number) (now (dst .exit)) r ⌝ }
+    ensures { λ r. ⌜ Writes dst at (hex4 number) r ⌝ }
     ensures short { λ r. ⌜ r ≡ at + 4 ⌝ }
 {
     let o1 = octets::put_byte(dst, at, hex_digit(number / 4096));

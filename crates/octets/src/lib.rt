@@ -3,13 +3,13 @@ ghost use mathlib.Core.Path.{_≡_};
 ghost use mathlib.Core.List.{[], _∷_};
 ghost use Prim.Native.Nat.{_+_, _≤_, _<_};
 ghost use lib.ListN.{length, take};
-ghost use Rattle.octets.specs.Wrote.{Wrote};
+ghost use Rattle.octets.specs.Wrote.{Writes};
 ghost use Rattle.octets.specs.Strings.{sameBytes};
 
 // Writes one byte, and answers the place after it.
 pub fn put_byte(dst: &mut [u8], at: usize, byte: u8) -> usize
     requires { ⌜ at < length (now dst) ⌝ }
-    ensures { λ r. ⌜ Wrote (now (dst .entry)) at (byte ∷ []) (now (dst .exit)) r ⌝ }
+    ensures { λ r. ⌜ Writes dst at (byte ∷ []) r ⌝ }
 {
     dst[at] = byte;
     at + 1
@@ -18,7 +18,7 @@ pub fn put_byte(dst: &mut [u8], at: usize, byte: u8) -> usize
 // Writes all of src, and answers the place after it.
 pub fn put(dst: &mut [u8], at: usize, src: &[u8]) -> usize
     requires { ⌜ at + length (now src) ≤ length (now dst) ⌝ }
-    ensures { λ r. ⌜ Wrote (now (dst .entry)) at (now (src .entry)) (now (dst .exit)) r ⌝ }
+    ensures { λ r. ⌜ Writes dst at (now (src .entry)) r ⌝ }
 {
     let mut o = at;
     let mut j = 0;

@@ -5,7 +5,7 @@ ghost use mathlib.Core.Path.{_≡_};
 ghost use mathlib.Core.List.{[], _∷_};
 ghost use Prim.Native.Nat.{_+_, _-_, _≤_};
 ghost use lib.ListN.{length, take, drop};
-ghost use Rattle.octets.specs.Wrote.{Wrote};
+ghost use Rattle.octets.specs.Wrote.{Writes};
 ghost use Rattle.pieces.specs.Pieces.{joined};
 ghost use Rattle.checksum.specs.Checksum.{sumDigits};
 ghost use Rattle.checksum.specs.declared.Kind.the-variants.{Modbus};
@@ -14,7 +14,7 @@ ghost use Rattle.record_writer.specs.Build.{recordBytes};
 // Writes one field and its delimiter, and answers the place after it.
 pub fn put_field(dst: &mut [u8], at: usize, field: &[u8], delimiter: u8) -> usize
     requires { ⌜ at + length (now field) + 1 ≤ length (now dst) ⌝ }
-    ensures { λ r. ⌜ Wrote (now (dst .entry)) at (joined delimiter (now (field .entry) ∷ [])) (now (dst .exit)) r ⌝ }
+    ensures { λ r. ⌜ Writes dst at (joined delimiter (now (field .entry) ∷ [])) r ⌝ }
     ensures short { λ r. ⌜ r ≡ at + length (now (field .entry)) + 1 ⌝ }
 {
     let o = octets::put(dst, at, field);
@@ -24,8 +24,7 @@ pub fn put_field(dst: &mut [u8], at: usize, field: &[u8], delimiter: u8) -> usiz
 // Writes the four digits of the bytes from a place up to `to` behind them, and answers the place after the digits.
 pub fn close_record(dst: &mut [u8], from: usize, to: usize) -> usize
     requires { ⌜ (from ≤ to) × (to + 4 ≤ length (now dst)) ⌝ }
-    ensures { λ r. ⌜ Wrote (now (dst .entry)) to (sumDigits Modbus (take (to - from) (drop from (now (dst .entry)))))
-        (now (dst .exit)) r ⌝ }
+    ensures { λ r. ⌜ Writes dst to (sumDigits Modbus (take (to - from) (drop from (now (dst .entry))))) r ⌝ }
     ensures short { λ r. ⌜ r ≡ to + 4 ⌝ }
 {
     checksum::put_sum(Kind::Modbus, dst, from, to)
@@ -42,9 +41,8 @@ fn put_fields4(
     d: &[u8],
 ) -> usize
     requires { ⌜ at + length (now a) + length (now b) + length (now c) + length (now d) + 4 ≤ length (now dst) ⌝ }
-    ensures { λ r. ⌜ Wrote (now (dst .entry)) at
-        (joined delimiter (now (a .entry) ∷ now (b .entry) ∷ now (c .entry) ∷ now (d .entry) ∷ []))
-        (now (dst .exit)) r ⌝ }
+    ensures { λ r. ⌜ Writes dst at
+        (joined delimiter (now (a .entry) ∷ now (b .entry) ∷ now (c .entry) ∷ now (d .entry) ∷ [])) r ⌝ }
     ensures short { λ r. ⌜ r ≡ at + length (now (a .entry)) + length (now (b .entry)) + length (now (c .entry))
         + length (now (d .entry)) + 4 ⌝ }
 {
@@ -67,10 +65,9 @@ pub fn put_record4(
 ) -> usize
     requires { ⌜ at + length (now rectype) + length (now first) + length (now second) + length (now third)
         + length (now fourth) + 9 ≤ length (now dst) ⌝ }
-    ensures { λ r. ⌜ Wrote (now (dst .entry)) at
+    ensures { λ r. ⌜ Writes dst at
         (recordBytes (now (rectype .entry)) delimiter
-        (now (first .entry) ∷ now (second .entry) ∷ now (third .entry) ∷ now (fourth .entry) ∷ []))
-        (now (dst .exit)) r ⌝ }
+        (now (first .entry) ∷ now (second .entry) ∷ now (third .entry) ∷ now (fourth .entry) ∷ [])) r ⌝ }
     ensures short { λ r. ⌜ r ≡ at + length (now (rectype .entry)) + length (now (first .entry))
         + length (now (second .entry)) + length (now (third .entry)) + length (now (fourth .entry)) + 9 ⌝ }
 {

@@ -5,7 +5,7 @@ ghost use mathlib.Core.Path.{_≡_};
 ghost use mathlib.Core.List.{[], _∷_};
 ghost use Prim.Native.Nat.{_+_, _≤_};
 ghost use lib.ListN.{length};
-ghost use Rattle.octets.specs.Wrote.{Wrote};
+ghost use Rattle.octets.specs.Wrote.{Writes};
 ghost use Rattle.fields.specs.Values.{string};
 ghost use Rattle.responses.specs.Responses.{responseBytes};
 ghost use Rattle.engine.specs.Refusals.{refusal, km};
@@ -30,9 +30,8 @@ fn sm_text(digit: u8) -> [u8; 7]
 // Writes the response to a refusal with a number under a header, and answers its length.
 fn tell(response: &mut [u8], header: &[u8], t: Telling, number: u8) -> usize
     requires { ⌜ (3 ≤ length (now header)) × (length (now header) + 16 ≤ length (now response)) ⌝ }
-    ensures { λ r. ⌜ Wrote (now (response .entry)) 0
-        (responseBytes (now (header .entry)) (statusIn t) (fieldsIn t number))
-        (now (response .exit)) r ⌝ }
+    ensures { λ r. ⌜ Writes response 0
+        (responseBytes (now (header .entry)) (statusIn t) (fieldsIn t number)) r ⌝ }
     ensures fits { λ r. ⌜ r ≤ length (now (response .entry)) ⌝ }
 {
     match t {
@@ -56,9 +55,8 @@ fn tell(response: &mut [u8], header: &[u8], t: Telling, number: u8) -> usize
 // for 5 to 7.
 pub fn refuse(response: &mut [u8], request: &[u8], reason: Refusal) -> usize
     requires { ⌜ CanTell (refusal reason .header) (length (now request)) (length (now response)) ⌝ }
-    ensures { λ n. ⌜ Wrote (now (response .entry)) 0
-        (responseOf (refusalReply (now (request .entry)) reason))
-        (now (response .exit)) n ⌝ }
+    ensures { λ n. ⌜ Writes response 0
+        (responseOf (refusalReply (now (request .entry)) reason)) n ⌝ }
     ensures fits { λ n. ⌜ n ≤ length (now (response .entry)) ⌝ }
 {
     let e = refusal_numbers::entry_of(reason);

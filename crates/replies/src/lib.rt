@@ -2,16 +2,15 @@
 ghost use mathlib.Core.List.{[], _∷_};
 ghost use Prim.Native.Nat.{_+_, _≤_};
 ghost use lib.ListN.{length};
-ghost use Rattle.octets.specs.Wrote.{Wrote};
+ghost use Rattle.octets.specs.Wrote.{Writes};
 ghost use Rattle.fields.specs.Values.{number, string};
 ghost use Rattle.responses.specs.Responses.{responseBytes};
 
 // Writes a response without fields, and answers its length.
 pub fn reply(response: &mut [u8], header: &[u8], status: &[u8]) -> usize
     requires { ⌜ (3 ≤ length (now header)) × (length (now header) + length (now status) + 5 ≤ length (now response)) ⌝ }
-    ensures { λ r. ⌜ Wrote (now (response .entry)) 0
-        (responseBytes (now (header .entry)) (now (status .entry)) [])
-        (now (response .exit)) r ⌝ }
+    ensures { λ r. ⌜ Writes response 0
+        (responseBytes (now (header .entry)) (now (status .entry)) []) r ⌝ }
     ensures fits { λ r. ⌜ r ≤ length (now (response .entry)) ⌝ }
 {
     let end = frame_writer::put_head(response, header, status);
@@ -22,9 +21,8 @@ pub fn reply(response: &mut [u8], header: &[u8], status: &[u8]) -> usize
 pub fn reply_text(response: &mut [u8], header: &[u8], status: &[u8], text: &[u8]) -> usize
     requires { ⌜ (3 ≤ length (now header))
         × (length (now header) + length (now status) + length (now text) + 7 ≤ length (now response)) ⌝ }
-    ensures { λ r. ⌜ Wrote (now (response .entry)) 0
-        (responseBytes (now (header .entry)) (now (status .entry)) (string (now (text .entry)) ∷ []))
-        (now (response .exit)) r ⌝ }
+    ensures { λ r. ⌜ Writes response 0
+        (responseBytes (now (header .entry)) (now (status .entry)) (string (now (text .entry)) ∷ [])) r ⌝ }
     ensures fits { λ r. ⌜ r ≤ length (now (response .entry)) ⌝ }
 {
     let a = frame_writer::put_head(response, header, status);
@@ -43,10 +41,9 @@ pub fn reply_texts(
     requires { ⌜ (3 ≤ length (now header))
         × (length (now header) + length (now status) + length (now first) + length (now second) + 9
         ≤ length (now response)) ⌝ }
-    ensures { λ r. ⌜ Wrote (now (response .entry)) 0
+    ensures { λ r. ⌜ Writes response 0
         (responseBytes (now (header .entry)) (now (status .entry))
-        (string (now (first .entry)) ∷ string (now (second .entry)) ∷ []))
-        (now (response .exit)) r ⌝ }
+        (string (now (first .entry)) ∷ string (now (second .entry)) ∷ [])) r ⌝ }
     ensures fits { λ r. ⌜ r ≤ length (now (response .entry)) ⌝ }
 {
     let a = frame_writer::put_head(response, header, status);
@@ -65,9 +62,8 @@ pub fn reply_number_text(
 ) -> usize
     requires { ⌜ (3 ≤ length (now header))
         × (length (now header) + length (now status) + 12 + length (now text) + 2 + 5 ≤ length (now response)) ⌝ }
-    ensures { λ r. ⌜ Wrote (now (response .entry)) 0
-        (responseBytes (now (header .entry)) (now (status .entry)) (number integer ∷ string (now (text .entry)) ∷ []))
-        (now (response .exit)) r ⌝ }
+    ensures { λ r. ⌜ Writes response 0
+        (responseBytes (now (header .entry)) (now (status .entry)) (number integer ∷ string (now (text .entry)) ∷ [])) r ⌝ }
     ensures fits { λ r. ⌜ r ≤ length (now (response .entry)) ⌝ }
 {
     let a = frame_writer::put_head(response, header, status);

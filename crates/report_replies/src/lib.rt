@@ -3,7 +3,7 @@ use rows::SlotRow;
 ghost use mathlib.Core.List.{[], _∷_, _++_};
 ghost use Prim.Native.Nat.{_≤_};
 ghost use lib.ListN.{length, take};
-ghost use Rattle.octets.specs.Wrote.{Wrote};
+ghost use Rattle.octets.specs.Wrote.{Writes};
 ghost use Rattle.fields.specs.Values.{string};
 ghost use Rattle.frames.specs.Frames.{headerOf};
 ghost use Rattle.responses.specs.Responses.{responseBytes};
@@ -16,9 +16,8 @@ ghost use Rattle.session_replies.specs.Room.{HasRoom};
 // The response to SM?GA, and its length: the stored card, without the zeros after it.
 pub fn respond_card(card: &[u8], request: &[u8], response: &mut [u8]) -> usize
     requires { ⌜ (length (now card) ≤ 256) × HasRoom (length (now request)) (length (now response)) ⌝ }
-    ensures { λ n. ⌜ Wrote (now (response .entry)) 0
-        (responseBytes (headerOf (now (request .entry))) accepted (string (trimmed (now (card .entry))) ∷ []))
-        (now (response .exit)) n ⌝ }
+    ensures { λ n. ⌜ Writes response 0
+        (responseBytes (headerOf (now (request .entry))) accepted (string (trimmed (now (card .entry))) ∷ [])) n ⌝ }
     ensures fits { λ n. ⌜ n ≤ length (now (response .entry)) ⌝ }
 {
     let shown = slot_tests::trimmed(card);
@@ -33,9 +32,8 @@ pub fn respond_names(
     response: &mut [u8],
 ) -> usize
     requires { ⌜ («slot_count» ≤ 8) × HasRoom (length (now request)) (length (now response)) ⌝ }
-    ensures { λ r. ⌜ Wrote (now (response .entry)) 0
-        (responseBytes (headerOf (now (request .entry))) accepted (nameFields (slotNames (take «slot_count» slots))))
-        (now (response .exit)) r ⌝ }
+    ensures { λ r. ⌜ Writes response 0
+        (responseBytes (headerOf (now (request .entry))) accepted (nameFields (slotNames (take «slot_count» slots)))) r ⌝ }
     ensures fits { λ r. ⌜ r ≤ length (now (response .entry)) ⌝ }
 {
     slot_lists::reply_names(response, frames::header(request), slots, slot_count)
@@ -51,10 +49,9 @@ pub fn respond_query(
     response: &mut [u8],
 ) -> usize
     requires { ⌜ («register_count» ≤ 32) × HasRoom (length (now request)) (length (now response)) ⌝ }
-    ensures { λ n. ⌜ Wrote (now (response .entry)) 0
+    ensures { λ n. ⌜ Writes response 0
         (responseBytes (headerOf (now (request .entry))) accepted
-        (slotFields row ++ numberFields (numbersFrom (isThe slot) 1 (take «register_count» owners))))
-        (now (response .exit)) n ⌝ }
+        (slotFields row ++ numberFields (numbersFrom (isThe slot) 1 (take «register_count» owners)))) n ⌝ }
     ensures fits { λ n. ⌜ n ≤ length (now (response .entry)) ⌝ }
 {
     slot_queries::reply_query(

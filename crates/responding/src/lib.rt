@@ -8,7 +8,7 @@ use rows::Supplement;
 ghost use mathlib.Core.Path.{_≡_};
 ghost use Prim.Native.Nat.{_≤_};
 ghost use lib.ListN.{length};
-ghost use Rattle.octets.specs.Wrote.{Wrote};
+ghost use Rattle.octets.specs.Wrote.{Writes};
 ghost use Rattle.row_index.specs.Lent.{tablesWithCards};
 ghost use Rattle.responding.specs.Responding.{outcomeFor, responseFor, CanRespond};
 
@@ -48,10 +48,9 @@ pub fn respond(
     requires { ⌜ (length (now cards) ≡ 32)
         × CanRespond decision (tablesWithCards slots «slot_count» (now cards) «register_count»)
         owners stored supplement (now request) (length (now response)) ⌝ }
-    ensures { λ k. ⌜ Wrote (now (response .entry)) 0
+    ensures { λ k. ⌜ Writes response 0
         (responseFor decision (tablesWithCards slots «slot_count» (now (cards .entry)) «register_count»)
-        supplement (now (request .entry)))
-        (now (response .exit)) k ⌝ }
+        supplement (now (request .entry))) k ⌝ }
     ensures fits { λ k. ⌜ k ≤ length (now (response .entry)) ⌝ }
 {
     match decision {

@@ -6,7 +6,7 @@ ghost use mathlib.Core.Bool.{true};
 ghost use mathlib.Core.List.{[], _∷_};
 ghost use Prim.Native.Nat.{_+_, _≤_, _<_};
 ghost use lib.ListN.{length};
-ghost use Rattle.octets.specs.Wrote.{Wrote};
+ghost use Rattle.octets.specs.Wrote.{Writes};
 ghost use Rattle.fields.specs.Values.{number, string};
 ghost use Rattle.frames.specs.Frames.{headerOf};
 ghost use Rattle.responses.specs.Responses.{responseBytes};
@@ -20,9 +20,8 @@ ghost use Rattle.session_replies.specs.Room.{HasRoom};
 // Accepts a request whose response has no fields, and answers its length.
 pub fn respond_plainly(request: &[u8], response: &mut [u8]) -> usize
     requires { ⌜ HasRoom (length (now request)) (length (now response)) ⌝ }
-    ensures { λ n. ⌜ Wrote (now (response .entry)) 0
-        (responseBytes (headerOf (now (request .entry))) accepted [])
-        (now (response .exit)) n ⌝ }
+    ensures { λ n. ⌜ Writes response 0
+        (responseBytes (headerOf (now (request .entry))) accepted []) n ⌝ }
     ensures fits { λ n. ⌜ n ≤ length (now (response .entry)) ⌝ }
 {
     replies::reply(response, frames::header(request), b"00")
@@ -34,10 +33,9 @@ pub fn respond_pending(supplement: Supplement, request: &[u8], response: &mut [u
         × ((areFieldsOf KF (fieldsIn (now request)) ≡ true)
         × ((length (kmcidOf (fieldsIn (now request))) ≤ 40)
         × (supplement .«request_length» ≤ 700))) ⌝ }
-    ensures { λ n. ⌜ Wrote (now (response .entry)) 0
+    ensures { λ n. ⌜ Writes response 0
         (responseBytes (headerOf (now (request .entry))) accepted
-        (string (kmcidOf (fieldsIn (now (request .entry)))) ∷ string (loadRequest supplement) ∷ []))
-        (now (response .exit)) n ⌝ }
+        (string (kmcidOf (fieldsIn (now (request .entry)))) ∷ string (loadRequest supplement) ∷ [])) n ⌝ }
     ensures fits { λ n. ⌜ n ≤ length (now (response .entry)) ⌝ }
 {
     let kmcid = request_parts::kmcid_text(frames::payload(request));
@@ -51,10 +49,9 @@ pub fn respond_open(request: &[u8], response: &mut [u8]) -> usize
     requires { ⌜ HasRoom (length (now request)) (length (now response))
         × ((areFieldsOf KF (fieldsIn (now request)) ≡ true)
         × (length (kmcidOf (fieldsIn (now request))) ≤ 40)) ⌝ }
-    ensures { λ n. ⌜ Wrote (now (response .entry)) 0
+    ensures { λ n. ⌜ Writes response 0
         (responseBytes (headerOf (now (request .entry))) accepted
-        (string (kmcidOf (fieldsIn (now (request .entry)))) ∷ []))
-        (now (response .exit)) n ⌝ }
+        (string (kmcidOf (fieldsIn (now (request .entry)))) ∷ [])) n ⌝ }
     ensures fits { λ n. ⌜ n ≤ length (now (response .entry)) ⌝ }
 {
     let name = request_parts::kmcid_text(frames::payload(request));
@@ -64,10 +61,9 @@ pub fn respond_open(request: &[u8], response: &mut [u8]) -> usize
 // The response to SM?KL, and its length: the number of the register, counted from 1, and the stored card.
 pub fn respond_load(place: usize, card: &[u8], request: &[u8], response: &mut [u8]) -> usize
     requires { ⌜ HasRoom (length (now request)) (length (now response)) × ((length (now card) ≤ 256) × (place < 32)) ⌝ }
-    ensures { λ n. ⌜ Wrote (now (response .entry)) 0
+    ensures { λ n. ⌜ Writes response 0
         (responseBytes (headerOf (now (request .entry))) accepted
-        (number (place + 1) ∷ string (now (card .entry)) ∷ []))
-        (now (response .exit)) n ⌝ }
+        (number (place + 1) ∷ string (now (card .entry)) ∷ [])) n ⌝ }
     ensures fits { λ n. ⌜ n ≤ length (now (response .entry)) ⌝ }
 {
     replies::reply_number_text(

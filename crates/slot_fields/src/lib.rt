@@ -6,7 +6,7 @@ ghost use mathlib.Core.Bool.{cond};
 ghost use mathlib.Core.List.{[], _∷_};
 ghost use Prim.Native.Nat.{_+_, _≤_};
 ghost use lib.ListN.{length};
-ghost use Rattle.octets.specs.Wrote.{Wrote};
+ghost use Rattle.octets.specs.Wrote.{Writes};
 ghost use Rattle.fields.specs.Values.{string, octets, fieldBytes, payloadBytes};
 ghost use Rattle.rows.specs.Slots.{kmcidOf};
 ghost use Rattle.rows.specs.Reports.{stateText};
@@ -14,7 +14,7 @@ ghost use Rattle.rows.specs.Reports.{stateText};
 // Writes the identifier of a slot, and answers the place after it.
 pub fn put_kmcid(dst: &mut [u8], at: usize, row: SlotRow) -> usize
     requires { ⌜ at + 42 ≤ length (now dst) ⌝ }
-    ensures { λ r. ⌜ Wrote (now (dst .entry)) at (fieldBytes (string (kmcidOf row))) (now (dst .exit)) r ⌝ }
+    ensures { λ r. ⌜ Writes dst at (fieldBytes (string (kmcidOf row))) r ⌝ }
     ensures short { λ r. ⌜ r ≤ at + 42 ⌝ }
 {
     let kmcid = row.kmcid;
@@ -24,7 +24,7 @@ pub fn put_kmcid(dst: &mut [u8], at: usize, row: SlotRow) -> usize
 // Writes the state, and answers the place after it. An IDLE slot is ACTIVE in the words of 001.
 pub fn put_state(dst: &mut [u8], at: usize, row: SlotRow) -> usize
     requires { ⌜ at + 9 ≤ length (now dst) ⌝ }
-    ensures { λ r. ⌜ Wrote (now (dst .entry)) at (fieldBytes (string (stateText row))) (now (dst .exit)) r ⌝ }
+    ensures { λ r. ⌜ Writes dst at (fieldBytes (string (stateText row))) r ⌝ }
     ensures short { λ r. ⌜ r ≤ at + 9 ⌝ }
 {
     if slot_tests::has_state(row, SlotState::Pending) {
@@ -39,10 +39,9 @@ pub fn put_state(dst: &mut [u8], at: usize, row: SlotRow) -> usize
 // Writes TVP and fingerprint, both empty where the slot does not hold them, and answers the place after them.
 pub fn put_key(dst: &mut [u8], at: usize, held: bool, tvp: &[u8], fingerprint: &[u8]) -> usize
     requires { ⌜ (length (now tvp) ≤ 16) × (length (now fingerprint) ≤ 16) × (at + 36 ≤ length (now dst)) ⌝ }
-    ensures { λ r. ⌜ Wrote (now (dst .entry)) at
+    ensures { λ r. ⌜ Writes dst at
         (payloadBytes (string (cond held (now (tvp .entry)) [])
-        ∷ octets (cond held (now (fingerprint .entry)) []) ∷ []))
-        (now (dst .exit)) r ⌝ }
+        ∷ octets (cond held (now (fingerprint .entry)) []) ∷ [])) r ⌝ }
     ensures short { λ r. ⌜ r ≤ at + 36 ⌝ }
 {
     if !held {

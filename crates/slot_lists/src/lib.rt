@@ -5,7 +5,7 @@ ghost use mathlib.Core.List.{[], _∷_};
 ghost use Prim.Native.Nat.{_+_, _≤_};
 ghost use lib.ListN.{length, take};
 ghost use Rattle.octets.specs.Texts.{text};
-ghost use Rattle.octets.specs.Wrote.{Wrote};
+ghost use Rattle.octets.specs.Wrote.{Writes};
 ghost use Rattle.fields.specs.Values.{payloadBytes};
 ghost use Rattle.responses.specs.Responses.{responseBytes};
 ghost use Rattle.rows.specs.Reports.{slotNames, nameFields};
@@ -13,9 +13,8 @@ ghost use Rattle.rows.specs.Reports.{slotNames, nameFields};
 // Writes the identifier of a slot, of a free one nothing, and answers the place after it.
 fn put_name(dst: &mut [u8], at: usize, row: SlotRow) -> usize
     requires { ⌜ at + 42 ≤ length (now dst) ⌝ }
-    ensures { λ r. ⌜ Wrote (now (dst .entry)) at
-        (payloadBytes (nameFields (slotNames (row ∷ []))))
-        (now (dst .exit)) r ⌝ }
+    ensures { λ r. ⌜ Writes dst at
+        (payloadBytes (nameFields (slotNames (row ∷ [])))) r ⌝ }
     ensures short { λ r. ⌜ r ≤ at + 42 ⌝ }
 {
     if slot_tests::has_state(row, SlotState::Free) {
@@ -27,9 +26,8 @@ fn put_name(dst: &mut [u8], at: usize, row: SlotRow) -> usize
 // Writes the identifiers of those of the first slot_count rows that are not free, and answers the place after them.
 fn put_names(dst: &mut [u8], at: usize, slots: [SlotRow; 8], slot_count: usize) -> usize
     requires { ⌜ («slot_count» ≤ 8) × (at + 336 ≤ length (now dst)) ⌝ }
-    ensures { λ r. ⌜ Wrote (now (dst .entry)) at
-        (payloadBytes (nameFields (slotNames (take «slot_count» slots))))
-        (now (dst .exit)) r ⌝ }
+    ensures { λ r. ⌜ Writes dst at
+        (payloadBytes (nameFields (slotNames (take «slot_count» slots)))) r ⌝ }
     ensures short { λ r. ⌜ r ≤ at + 336 ⌝ }
 {
     let mut end = at;
@@ -52,9 +50,8 @@ pub fn reply_names(
     requires { ⌜ («slot_count» ≤ 8)
         × (3 ≤ length (now header))
         × (length (now header) + 343 ≤ length (now response)) ⌝ }
-    ensures { λ r. ⌜ Wrote (now (response .entry)) 0
-        (responseBytes (now (header .entry)) (text "00") (nameFields (slotNames (take «slot_count» slots))))
-        (now (response .exit)) r ⌝ }
+    ensures { λ r. ⌜ Writes response 0
+        (responseBytes (now (header .entry)) (text "00") (nameFields (slotNames (take «slot_count» slots)))) r ⌝ }
     ensures fits { λ r. ⌜ r ≤ length (now (response .entry)) ⌝ }
 {
     let a = frame_writer::put_head(response, header, b"00");

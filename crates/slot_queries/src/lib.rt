@@ -5,7 +5,7 @@ ghost use mathlib.Core.List.{[], _∷_, _++_};
 ghost use Prim.Native.Nat.{_+_, _≤_};
 ghost use lib.ListN.{length, take};
 ghost use Rattle.octets.specs.Texts.{text};
-ghost use Rattle.octets.specs.Wrote.{Wrote};
+ghost use Rattle.octets.specs.Wrote.{Writes};
 ghost use Rattle.fields.specs.Values.{payloadBytes};
 ghost use Rattle.responses.specs.Responses.{responseBytes};
 ghost use Rattle.rows.specs.Lists.{numbersFrom};
@@ -15,9 +15,8 @@ ghost use Rattle.row_index.specs.Found.{isThe};
 // Writes a register's number where its owner is the slot, else nothing, and answers the place after it.
 fn put_register(dst: &mut [u8], at: usize, number: u32, owner: usize, slot: usize) -> usize
     requires { ⌜ at + 12 ≤ length (now dst) ⌝ }
-    ensures { λ r. ⌜ Wrote (now (dst .entry)) at
-        (payloadBytes (numberFields (numbersFrom (isThe slot) number (owner ∷ []))))
-        (now (dst .exit)) r ⌝ }
+    ensures { λ r. ⌜ Writes dst at
+        (payloadBytes (numberFields (numbersFrom (isThe slot) number (owner ∷ [])))) r ⌝ }
     ensures short { λ r. ⌜ r ≤ at + 12 ⌝ }
 {
     if owner == slot {
@@ -36,9 +35,8 @@ fn put_registers(
     slot: usize,
 ) -> usize
     requires { ⌜ («register_count» ≤ 32) × (at + 384 ≤ length (now dst)) ⌝ }
-    ensures { λ r. ⌜ Wrote (now (dst .entry)) at
-        (payloadBytes (numberFields (numbersFrom (isThe slot) 1 (take «register_count» owners))))
-        (now (dst .exit)) r ⌝ }
+    ensures { λ r. ⌜ Writes dst at
+        (payloadBytes (numberFields (numbersFrom (isThe slot) 1 (take «register_count» owners)))) r ⌝ }
     ensures short { λ r. ⌜ r ≤ at + 384 ⌝ }
 {
     let mut end = at;
@@ -62,10 +60,9 @@ pub fn reply_query(
     requires { ⌜ («register_count» ≤ 32)
         × (3 ≤ length (now header))
         × (length (now header) + 514 ≤ length (now response)) ⌝ }
-    ensures { λ r. ⌜ Wrote (now (response .entry)) 0
+    ensures { λ r. ⌜ Writes response 0
         (responseBytes (now (header .entry)) (text "00")
-        (slotFields row ++ numberFields (numbersFrom (isThe slot) 1 (take «register_count» owners))))
-        (now (response .exit)) r ⌝ }
+        (slotFields row ++ numberFields (numbersFrom (isThe slot) 1 (take «register_count» owners)))) r ⌝ }
     ensures fits { λ r. ⌜ r ≤ length (now (response .entry)) ⌝ }
 {
     let a = frame_writer::put_head(response, header, b"00");

@@ -3,7 +3,7 @@ use rows::SlotRow;
 use rows::SlotState;
 ghost use Prim.Native.Nat.{_+_, _≤_};
 ghost use lib.ListN.{length};
-ghost use Rattle.octets.specs.Wrote.{Wrote};
+ghost use Rattle.octets.specs.Wrote.{Writes};
 ghost use Rattle.fields.specs.Values.{payloadBytes};
 ghost use Rattle.rows.specs.Reports.{slotFields};
 
@@ -11,7 +11,7 @@ ghost use Rattle.rows.specs.Reports.{slotFields};
 // place after them.
 pub fn put_slot(dst: &mut [u8], at: usize, row: SlotRow) -> usize
     requires { ⌜ at + 123 ≤ length (now dst) ⌝ }
-    ensures { λ r. ⌜ Wrote (now (dst .entry)) at (payloadBytes (slotFields row)) (now (dst .exit)) r ⌝ }
+    ensures { λ r. ⌜ Writes dst at (payloadBytes (slotFields row)) r ⌝ }
     ensures short { λ r. ⌜ r ≤ at + 123 ⌝ }
 {
     let fingerprint = row.fingerprint;
