@@ -65,9 +65,11 @@ count() {
 
 if [ "${1:-}" = write ]; then
     table=$(count)
+    page=$(mktemp)
     awk -v table="$table" '/^<!-- end -->$/ { on = 0 } !on { print } /^<!-- definitions -->$/ { print table; on = 1 }' \
-        docs/TRUST.md > target/TRUST.md
-    mv target/TRUST.md docs/TRUST.md
+        docs/TRUST.md > "$page"
+    cat "$page" > docs/TRUST.md
+    rm -f "$page"
 else
     count
 fi

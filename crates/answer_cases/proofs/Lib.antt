@@ -1,7 +1,7 @@
 pub mod Accepted
 pub mod CardRefused
 pub mod ComputedRefusals
-pub mod ComputedReports
+pub mod ComputedReplies
 pub mod StoredCard
 pub mod Numbers
 pub mod Statuses

@@ -26,7 +26,7 @@ use Rattle.engine.specs.declared.Refusal.{Refusal}
 use Rattle.engine.specs.declared.Refusal.the-variants.{RowCounts, ShortBuffer, UnsoundRows, BadSupplement, BadFrame, BadChecksum, UnknownHeader, BadFields, BadRecord, BadForm, Expired, UnknownSlot, NoFreeSlot, WrongState, OtherModule, OtherFingerprint, OtherTvp, OtherTag, CheckFailed, NoFreeRegister, EmptyRegister}
 use Rattle.engine.specs.declared.Outcome.{Outcome}
 use Rattle.engine.specs.declared.Outcome.the-variants.{Accepted, Done, Refused}
-use Rattle.refusal_numbers.specs.Tellings.{headerFor}
+use Rattle.refusal_numbers.specs.RefusalForms.{headerFor}
 use Rattle.engine.proofs.RefusalLaws.{isUnwritten, Group, of-tables, of-message, of-later, refusal-group, tables-unwritten, message-general}
 use Rattle.engine.proofs.AnswerWords.{header-five, refusal-said}
 use Rattle.engine.proofs.AnswerLaws.{isYes, refused-by}

@@ -22,7 +22,7 @@ use Rattle.commands.specs.declared.Command.{Command}
 use Rattle.commands.specs.declared.Command.the-variants.{KL}
 use Rattle.rows.specs.Lists.{trimmed}
 use Rattle.rows.specs.Registers.{attributeOf, freeRegister, filledRegister}
-use Rattle.rows.specs.Reports.{storedIn}
+use Rattle.rows.specs.RowReplies.{storedIn}
 use Rattle.rows.specs.declared.RegisterRow.{RegisterRow}
 use Rattle.engine.specs.Requests.{commandIn, fieldsIn, recordIn, slotIn, cardIn, registerIn, secondText}
 use Rattle.engine.specs.Questions.{Call}

@@ -1,5 +1,5 @@
--- What each command is asked, 8 and on (document 01, Questions in order): S and R are the rows, x the supplement, vs the
--- fields, r the record, s the slot's name, row the slot's row.
+-- What each command is asked, 8 and on (document 01, Questions in order): S and R are the rows, x the supplement, vs
+-- the fields, r the record, s the slot's name, row the slot's row.
 use Prim.Native.Nat.{ℕ, _-_}
 use mathlib.Core.Bool.{_||_}
 use mathlib.Core.List.{List, [], _∷_}

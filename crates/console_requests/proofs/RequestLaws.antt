@@ -11,7 +11,7 @@ use Rattle.octets.specs.Wrote.{Wrote}
 use Rattle.octets.proofs.Writes.{then, take-start}
 use Rattle.frames.specs.Frames.{ending, framed}
 use Rattle.rows.specs.Places.{slotRows}
-use Rattle.rows.specs.Reports.{InSomeSequence}
+use Rattle.rows.specs.RowReplies.{InSomeSequence}
 use Rattle.rows.specs.declared.Tables.{Tables}
 use Rattle.rows.specs.declared.Supplement.{Supplement}
 use Rattle.engine.specs.Answers.{Answer, response, answerOf, bufferAfter}

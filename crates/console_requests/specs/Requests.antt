@@ -5,7 +5,7 @@ use mathlib.Core.List.{List}
 use lib.Dec.{leb}
 use Rattle.octets.specs.Wrote.{Wrote}
 use Rattle.rows.specs.Places.{slotRows}
-use Rattle.rows.specs.Reports.{InSomeSequence}
+use Rattle.rows.specs.RowReplies.{InSomeSequence}
 use Rattle.engine.specs.Answers.{Answer, response, answerOf}
 use Rattle.engine.specs.Calls.{callIn, tablesAfter}
 use Rattle.console_state.specs.State.{withTables}

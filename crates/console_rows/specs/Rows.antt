@@ -1,17 +1,17 @@
 -- The rows in the form of the lines that set them (docs/CONSOLE.md).
 use Prim.Native.Nat.{ℕ}
 use mathlib.Core.List.{List, _++_}
-use Rattle.rows.specs.Lists.{told}
+use Rattle.rows.specs.Lists.{inTurn}
 use Rattle.rows.specs.declared.SlotRow.{SlotRow}
 use Rattle.rows.specs.declared.RegisterRow.{RegisterRow}
 use Rattle.rows.specs.declared.Tables.{Tables}
 use Rattle.console_row_lines.specs.OneRow.{slotLine, registerLine}
 
 abbrev pub slotLines : List SlotRow → List ℕ
-slotLines rows = told slotLine 0 rows
+slotLines rows = inTurn slotLine 0 rows
 
 abbrev pub registerLines : List RegisterRow → List ℕ
-registerLines rows = told registerLine 0 rows
+registerLines rows = inTurn registerLine 0 rows
 
 unfoldable pub rowLines : Tables → List ℕ
 rowLines t = slotLines (t .slots) ++ registerLines (t .registers)

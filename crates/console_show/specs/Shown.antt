@@ -1,7 +1,7 @@
 -- The rows for people: the line `show` (docs/CONSOLE.md).
 use Prim.Native.Nat.{ℕ, _+_}
 use mathlib.Core.List.{List, _++_}
-use Rattle.rows.specs.Lists.{told}
+use Rattle.rows.specs.Lists.{inTurn}
 use Rattle.rows.specs.declared.RegisterRow.{RegisterRow}
 use Rattle.rows.specs.declared.Tables.{Tables}
 use Rattle.engine.specs.Usable.{isUsable}
@@ -12,4 +12,4 @@ unfoldable pub registerIn : Tables → ℕ → RegisterRow → List ℕ
 registerIn t k r = registerShown (isUsable t (k + 1)) k r
 
 unfoldable pub shownRows : Tables → List ℕ
-shownRows t = countsShown t ++ (told slotShown 0 (t .slots) ++ told (registerIn t) 0 (t .registers))
+shownRows t = countsShown t ++ (inTurn slotShown 0 (t .slots) ++ inTurn (registerIn t) 0 (t .registers))

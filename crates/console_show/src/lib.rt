@@ -5,13 +5,13 @@ use rows::Tables;
 ghost use Prim.Native.Nat.{_+_, _≤_};
 ghost use lib.ListN.{length};
 ghost use Rattle.octets.specs.Wrote.{Writes};
-ghost use Rattle.rows.specs.Lists.{told};
+ghost use Rattle.rows.specs.Lists.{inTurn};
 ghost use Rattle.console_shown_rows.specs.OneRow.{slotShown};
 ghost use Rattle.console_show.specs.Shown.{registerIn, shownRows};
 
 fn put_slots(dst: &mut [u8], at: usize, slots: [SlotRow; 8]) -> usize
     requires { ⌜ at + 840 ≤ length (now dst) ⌝ }
-    ensures { λ r. ⌜ Writes dst at (told slotShown 0 slots) r ⌝ }
+    ensures { λ r. ⌜ Writes dst at (inTurn slotShown 0 slots) r ⌝ }
     ensures short { λ r. ⌜ r ≤ at + 840 ⌝ }
 {
     let mut end = at;
@@ -26,7 +26,7 @@ fn put_slots(dst: &mut [u8], at: usize, slots: [SlotRow; 8]) -> usize
 
 fn put_registers(dst: &mut [u8], at: usize, t: Tables, registers: [RegisterRow; 32]) -> usize
     requires { ⌜ at + 9280 ≤ length (now dst) ⌝ }
-    ensures { λ r. ⌜ Writes dst at (told (registerIn t) 0 registers) r ⌝ }
+    ensures { λ r. ⌜ Writes dst at (inTurn (registerIn t) 0 registers) r ⌝ }
     ensures short { λ r. ⌜ r ≤ at + 9280 ⌝ }
 {
     let mut end = at;

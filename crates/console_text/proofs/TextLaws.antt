@@ -9,7 +9,7 @@ use Rattle.octets.specs.Wrote.{Wrote}
 use Rattle.octets.proofs.Writes.{then}
 use Rattle.text.specs.Classes.{isOf}
 use Rattle.text.specs.declared.Class.the-variants.{Text}
-use Rattle.rows.specs.Lists.{trimmed, told}
+use Rattle.rows.specs.Lists.{trimmed, inTurn}
 use Rattle.rows.proofs.ListLaws.{trimmed-short}
 use Rattle.console_text.specs.Texts.{legible, orDash, shown}
 
@@ -27,7 +27,7 @@ module _ {d e : List ℕ} {a r : ℕ} (b : ℕ) (t : Bool) (p : t ≡ isOf Text 
 abbrev pub oneByte : ℕ → ℕ → List ℕ
 oneByte i b = legible b ∷ []
 
-pub text-told : (i : ℕ) (s : List ℕ) → told oneByte i s ≡ map legible s
+pub text-told : (i : ℕ) (s : List ℕ) → inTurn oneByte i s ≡ map legible s
 text-told i [] = refl
 text-told i (b ∷ s) = ap (λ (l : List ℕ). legible b ∷ l) (text-told (i + 1) s)
 

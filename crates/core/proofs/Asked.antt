@@ -20,7 +20,7 @@ use Rattle.engine.specs.Answers.{cardPlace}
 use Rattle.engine.specs.Decisions.{decisionOf}
 use Rattle.engine.specs.declared.Decision.{Decision}
 use Rattle.engine.proofs.QuestionLaws.{AllYes}
-use Rattle.engine.proofs.DecisionLaws.{commandFor, isRefuse, carried}
+use Rattle.engine.proofs.DecisionLaws.{commandFor, isRefuse, granted-answer}
 
 -- every question of a command was a yes
 abbrev pub Asked : Call → Command → Type 0
@@ -32,7 +32,7 @@ unfolding questions
 all-asked c y = y
 
 pub asked-of : (c : Call) (d : Decision) → decisionOf c ≡ d → isRefuse d ≡ false → Asked c (commandFor d)
-asked-of c d e n = let k = carried c d e n in subst (Asked c) (k .command) (all-asked c (k .yeses))
+asked-of c d e n = let k = granted-answer c d e n in subst (Asked c) (k .command) (all-asked c (k .yeses))
 
 -- a place that was found is one of the rows
 pub first-below : {A : Type 0} (f : A → Bool) (d : A) (l : List A) → isPlace (firstFrom f 0 l) ≡ true → placeIn l (firstFrom f 0 l) < length l

@@ -11,7 +11,7 @@ use Rattle.responses.specs.Responses.{responseBytes}
 use Rattle.rows.specs.Places.{slotRows, registerRows}
 use Rattle.rows.specs.Slots.{freeSlot}
 use Rattle.rows.specs.Registers.{freeRegister}
-use Rattle.rows.specs.Reports.{storedIn, slotNames, queryFields}
+use Rattle.rows.specs.RowReplies.{storedIn, slotNames, queryFields}
 use Rattle.rows.specs.declared.SlotRow.{SlotRow}
 use Rattle.rows.specs.declared.RegisterRow.{RegisterRow}
 use Rattle.rows.specs.declared.Supplement.{Supplement}
@@ -23,7 +23,7 @@ use Rattle.engine.specs.Calls.{callIn}
 use Rattle.engine.specs.Decisions.{decisionOf}
 use Rattle.engine.specs.declared.Decision.{Decision}
 use Rattle.engine.specs.declared.Decision.the-variants.{Refuse, Reset, Pend, Open, Load, Finish, Delete, Clear, Show, Enumerate, Query}
-use Rattle.engine.proofs.DecisionLaws.{commandFor, isRefuse, told, carried}
+use Rattle.engine.proofs.DecisionLaws.{commandFor, isRefuse, refused-answer, granted-answer}
 use Rattle.engine.proofs.Places.{filled-below}
 use Rattle.responding.specs.Responding.{outcomeFor, responseFor}
 use Rattle.core.proofs.Front.{getD-front}
@@ -31,11 +31,11 @@ use Rattle.core.proofs.Asked.{asked-of, slot-below}
 
 -- the answer of a decision that carries its command out
 pub effect-of : (c : Call) (d : Decision) → decisionOf c ≡ d → isRefuse d ≡ false → effect c (commandFor d) (fieldsIn (c .request)) (recordIn (commandFor d) (fieldsIn (c .request))) (slotIn (commandFor d) (fieldsIn (c .request))) ≡ answerOf c
-effect-of c d e n = sym (carried c d e n .answers)
+effect-of c d e n = sym (granted-answer c d e n .answers)
 
 pub outcome-is : (c : Call) (d : Decision) → decisionOf c ≡ d → outcomeFor d ≡ answerOf c .outcome
 unfolding refused answered listed
-outcome-is c (Refuse r) e = rw (told c r e) refl
+outcome-is c (Refuse r) e = rw (refused-answer c r e) refl
 outcome-is c Reset e = ap (λ (a : Answer). a .outcome) (effect-of c Reset e refl)
 outcome-is c (Pend k) e = ap (λ (a : Answer). a .outcome) (effect-of c (Pend k) e refl)
 outcome-is c (Open k) e = ap (λ (a : Answer). a .outcome) (effect-of c (Open k) e refl)
@@ -63,28 +63,28 @@ placeFor (Query k) = k
 
 -- is the place of the rows that the questions found
 pub load-place : (c : Call) (k : ℕ) → decisionOf c ≡ Load k → cardPlace (cardIn (recordIn KL (fieldsIn (c .request)))) (c .registers) ≡ k
-load-place c k e = ap placeFor (carried c (Load k) e refl .does)
+load-place c k e = ap placeFor (granted-answer c (Load k) e refl .grants)
 
 pub pend-place : (c : Call) (k : ℕ) → decisionOf c ≡ Pend k → placeIn (c .slots) (sessionPlace (slotIn KC (fieldsIn (c .request))) (c .slots)) ≡ k
-pend-place c k e = ap placeFor (carried c (Pend k) e refl .does)
+pend-place c k e = ap placeFor (granted-answer c (Pend k) e refl .grants)
 
 pub open-place : (c : Call) (k : ℕ) → decisionOf c ≡ Open k → placeIn (c .slots) (slotPlace (slotIn KR (fieldsIn (c .request))) (c .slots)) ≡ k
-open-place c k e = ap placeFor (carried c (Open k) e refl .does)
+open-place c k e = ap placeFor (granted-answer c (Open k) e refl .grants)
 
 pub finish-place : (c : Call) (k : ℕ) → decisionOf c ≡ Finish k → placeIn (c .slots) (slotPlace (slotIn KF (fieldsIn (c .request))) (c .slots)) ≡ k
-finish-place c k e = ap placeFor (carried c (Finish k) e refl .does)
+finish-place c k e = ap placeFor (granted-answer c (Finish k) e refl .grants)
 
 pub delete-place : (c : Call) (k : ℕ) → decisionOf c ≡ Delete k → placeIn (c .slots) (slotPlace (slotIn KX (fieldsIn (c .request))) (c .slots)) ≡ k
-delete-place c k e = ap placeFor (carried c (Delete k) e refl .does)
+delete-place c k e = ap placeFor (granted-answer c (Delete k) e refl .grants)
 
 pub clear-place : (c : Call) (k : ℕ) → decisionOf c ≡ Clear k → registerIn (fieldsIn (c .request)) - 1 ≡ k
-clear-place c k e = ap placeFor (carried c (Clear k) e refl .does)
+clear-place c k e = ap placeFor (granted-answer c (Clear k) e refl .grants)
 
 pub show-place : (c : Call) (k : ℕ) → decisionOf c ≡ Show k → registerIn (fieldsIn (c .request)) - 1 ≡ k
-show-place c k e = ap placeFor (carried c (Show k) e refl .does)
+show-place c k e = ap placeFor (granted-answer c (Show k) e refl .grants)
 
 pub query-place : (c : Call) (k : ℕ) → decisionOf c ≡ Query k → placeIn (c .slots) (slotPlace (slotIn KQ (fieldsIn (c .request))) (c .slots)) ≡ k
-query-place c k e = ap placeFor (carried c (Query k) e refl .does)
+query-place c k e = ap placeFor (granted-answer c (Query k) e refl .grants)
 
 -- the response, over tables by value; SM?GL's list is in the sequence of the rows
 module _ (t : Tables) (x : Supplement) (q : List ℕ) (room : ℕ) where
@@ -112,7 +112,7 @@ module _ (t : Tables) (x : Supplement) (q : List ℕ) (room : ℕ) where
 
   pub response-is : (d : Decision) → decisionOf k₀ ≡ d → responseFor d t x q ≡ response (answerOf k₀) names
   unfolding refused answered listed recordIn slotIn
-  response-is (Refuse r) e = rw (told k₀ r e) refl
+  response-is (Refuse r) e = rw (refused-answer k₀ r e) refl
   response-is Reset e = ap said (effect-of k₀ Reset e refl)
   response-is (Pend k) e = ap said (effect-of k₀ (Pend k) e refl)
   response-is (Open k) e = ap said (effect-of k₀ (Open k) e refl)

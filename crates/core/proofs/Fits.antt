@@ -46,11 +46,11 @@ use Rattle.engine.specs.Decisions.{decisionOf}
 use Rattle.engine.specs.declared.Refusal.{Refusal}
 use Rattle.engine.specs.declared.Decision.{Decision}
 use Rattle.engine.specs.declared.Decision.the-variants.{Refuse, Reset, Pend, Open, Load, Finish, Delete, Clear, Show, Enumerate, Query}
-use Rattle.engine.proofs.DecisionLaws.{commandFor, isRefuse, carried, refused-first}
+use Rattle.engine.proofs.DecisionLaws.{commandFor, isRefuse, granted-answer, refused-first}
 use Rattle.engine.proofs.RefusalLaws.{isUnwritten, isOwn, Group, of-tables, of-message, of-later, refusal-group, tables-unwritten, message-general}
 use Rattle.engine.proofs.Steps.{Yes, yes-of, is-short}
-use Rattle.refusals.specs.Tellings.{CanTell}
-use Rattle.refusals.proofs.TellingLaws.{can-tell}
+use Rattle.refusals.specs.RefusalForms.{CanRefuse}
+use Rattle.refusals.proofs.RefusalLaws.{can-tell}
 use Rattle.request_parts.specs.Parts.{cardOf}
 use Rattle.session_replies.specs.Room.{HasRoom}
 use Rattle.responding.specs.Responding.{CanRespond}
@@ -87,20 +87,20 @@ request-short x e =
     leb-true (x .«request_length») 700 (and-first (leb (x .«request_length») 700) _ (and-second (leb 1 (x .«request_length»)) _ l))
 
 -- a refusal is told where there is room
-unwritten-tells : (h : Option Header) (n m : ℕ) → isUnwritten h ≡ true → CanTell h n m
+unwritten-tells : (h : Option Header) (n m : ℕ) → isUnwritten h ≡ true → CanRefuse h n m
 unwritten-tells none n m e = tt
 unwritten-tells (some h) n m e = nope (cc)
 
-general-tells : (h : Option Header) (n m : ℕ) → isOwn h ≡ false → 1024 ≤ m → CanTell h n m
+general-tells : (h : Option Header) (n m : ℕ) → isOwn h ≡ false → 1024 ≤ m → CanRefuse h n m
 general-tells none n m e r = tt
 general-tells (some general) n m e r = r
 general-tells (some own) n m e r = nope (cc)
 
 module _ (c : Call) where
-  tells : (r : Refusal) → decisionOf c ≡ Refuse r → CanTell (refusal r .header) (length (c .request)) (c .room)
+  tells : (r : Refusal) → decisionOf c ≡ Refuse r → CanRefuse (refusal r .header) (length (c .request)) (c .room)
   tells r e = go (refusal-group c r (refused-first c r e))
     where
-      go : Group c r → CanTell (refusal r .header) (length (c .request)) (c .room)
+      go : Group c r → CanRefuse (refusal r .header) (length (c .request)) (c .room)
       go (of-tables w) = unwritten-tells (refusal r .header) (length (c .request)) (c .room) (tables-unwritten c r w)
       go (of-message t w) = general-tells (refusal r .header) (length (c .request)) (c .room) (message-general c r w) (leb-true 1024 (c .room) (t .1 .0))
       go (of-later t y w) = can-tell (refusal r .header) (length (c .request)) (c .room) (whole-ten (c .request) (y .0)) (leb-true 1024 (c .room) (t .1 .0))
@@ -110,7 +110,7 @@ module _ (c : Call) where
     has-room = (whole-ten (c .request) (y .1 .1 .1 .1 .0), leb-true 1024 (c .room) (y .1 .0))
 
   yes-at : (d : Decision) → decisionOf c ≡ d → isRefuse d ≡ false → Yes c (commandFor d) (fieldsIn (c .request))
-  yes-at d e n = let k = carried c d e n in subst (λ (o : Command). Yes c o (fieldsIn (c .request))) (k .command) (yes-of c (k .none-first))
+  yes-at d e n = let k = granted-answer c d e n in subst (λ (o : Command). Yes c o (fieldsIn (c .request))) (k .command) (yes-of c (k .none-first))
 
   loaded-short : (k : ℕ) → decisionOf c ≡ Load k → length (cardOf (c .supplement) (fieldsIn (c .request))) ≤ 256
   unfolding recordIn slotIn
@@ -132,7 +132,7 @@ kept-at s n l k p =
 
 -- the places of a call over tables by value
 module _ (t : Tables) (x : Supplement) (q : List ℕ) (room : ℕ) (owners : List ℕ)
-    (told : areCounts (t .«slot_count») (t .«register_count») ≡ true → AreOwners owners (slotRows t) (registerRows t) (t .«register_count»)) where
+    (owned : areCounts (t .«slot_count») (t .«register_count») ≡ true → AreOwners owners (slotRows t) (registerRows t) (t .«register_count»)) where
   abbrev k₀ : Call
   k₀ = callIn t x q room
 
@@ -162,11 +162,11 @@ module _ (t : Tables) (x : Supplement) (q : List ℕ) (room : ℕ) (owners : Lis
       let y = asked-of k₀ (Delete k) e refl in
       slot-place KX y k _ (delete-place k₀ k e) (slot-below (slotIn KX vs) (k₀ .slots) (y .1 .1 .1 .1 .1 .1 .1 .1 .1 .1 .1 .0))
 
-  -- the owners tell the registers under a slot that was found
+  -- the owners write_refusal the registers under a slot that was found
   owned-at : (o : Command) → Asked k₀ o → (s : List ℕ) (k : ℕ) → slotPlace s (slotRows t) ≡ some k → AreOwnedBy (k + 1) s (take (t .«register_count») owners) (registerRows t)
   unfolding areSound
   owned-at o y s k p =
-      let e : take (t .«register_count») owners ≡ map (ownerNumber (map keptName (slotRows t))) (registerRows t) = told (y .0) (y .1 .1 .0) in
+      let e : take (t .«register_count») owners ≡ map (ownerNumber (map keptName (slotRows t))) (registerRows t) = owned (y .0) (y .1 .1 .0) in
       rw e (owned-by-number (slotRows t) (and-first (everyRow isSlotSound (slotRows t)) _ (y .1 .1 .0)) s k p (registerRows t))
 
   deleted-at : (k : ℕ) → decisionOf k₀ ≡ Delete k → slotPlace (slotIn KX vs) (slotRows t) ≡ some k

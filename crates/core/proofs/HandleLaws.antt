@@ -10,7 +10,7 @@ use Rattle.octets.proofs.Writes.{from-start}
 use Rattle.fields.specs.Values.{Value, valuesOf}
 use Rattle.frames.specs.Frames.{payloadOf}
 use Rattle.rows.specs.Places.{slotRows}
-use Rattle.rows.specs.Reports.{slotNames}
+use Rattle.rows.specs.RowReplies.{slotNames}
 use Rattle.rows.specs.declared.Supplement.{Supplement}
 use Rattle.rows.specs.declared.Tables.{Tables}
 use Rattle.rows.specs.declared.SlotRow.{SlotRow}
@@ -52,15 +52,15 @@ module _ (slots : List SlotRow) (n : ℕ) (R : List RegisterRow) (m : ℕ) (x : 
   abbrev t : Tables
   t = tablesWith slots n R m
 
-  module _ (owners : List ℕ) (told : areCounts n m ≡ true → AreOwners owners (take n slots) (take m R) m) where
+  module _ (owners : List ℕ) (owned : areCounts n m ≡ true → AreOwners owners (take n slots) (take m R) m) where
     pub responds : (p : List ℕ) → p ≡ payloadOf q → (c : Stored) → HasStored d c x (valuesOf p) → (l : List RegisterRow) → l ≡ registersAfter d m R x (valuesOf p) → CanRespond d (tablesWith slots n l m) owners c x q room
-    responds p w c h l y = rw (y, w) (can-respond t x q room owners told d (sym e) c (rw w at h))
+    responds p w c h l y = rw (y, w) (can-respond t x q room owners owned d (sym e) c (rw w at h))
 
     pub slots-can : (p : List ℕ) → p ≡ payloadOf q → CanChangeSlots d n (valuesOf p)
-    slots-can p w = rw w (can-slots t x q room owners told d (sym e))
+    slots-can p w = rw w (can-slots t x q room owners owned d (sym e))
 
     pub registers-can : (p : List ℕ) → p ≡ payloadOf q → CanChangeRegisters d m owners R x (valuesOf p)
-    registers-can p w = rw w (can-registers t x q room owners told d (sym e))
+    registers-can p w = rw w (can-registers t x q room owners owned d (sym e))
 
   pub outcome-right : (o : Outcome) → o ≡ outcomeFor d → o ≡ answerOf (callIn t x q room) .outcome
   outcome-right o w = w ∙ outcome-is (callIn t x q room) d (sym e)

@@ -13,12 +13,12 @@ use Rattle.rows.specs.declared.Supplement.{Supplement}
 use Rattle.rows.specs.declared.Tables.{Tables}
 use Rattle.engine.specs.Requests.{fieldsIn, registerIn, recordIn, slotIn}
 use Rattle.engine.specs.Questions.{Call, placeIn, isPlace, slotPlace, slotNamed}
-use Rattle.engine.specs.Answers.{Answer, slotsMoved, slotsOpened, slotsWithout, refused, answered, listed, effect, answerOf}
+use Rattle.engine.specs.Answers.{Answer, slotsMoved, slotsPending, slotsWithout, refused, answered, listed, effect, answerOf}
 use Rattle.engine.specs.Calls.{callIn, tablesAfter}
 use Rattle.engine.specs.Decisions.{decisionOf}
 use Rattle.engine.specs.declared.Decision.{Decision}
 use Rattle.engine.specs.declared.Decision.the-variants.{Refuse, Reset, Pend, Open, Load, Finish, Delete, Clear, Show, Enumerate, Query}
-use Rattle.engine.proofs.DecisionLaws.{commandFor, told}
+use Rattle.engine.proofs.DecisionLaws.{commandFor, refused-answer}
 use Rattle.engine.proofs.Places.{filled-below}
 use Rattle.changes.specs.Changes.{slotsAfter, registersAfter, tablesFor}
 use Rattle.core.proofs.Front.{set-front, getD-front}
@@ -60,8 +60,8 @@ module _ (t : Tables) (x : Supplement) (q : List ℕ) (room : ℕ) where
       rw (getD-front n (t .slots) k freeSlot h, w) (set-front n (t .slots) k (movedSlot a (getD (take n (t .slots)) k freeSlot)) h)
 
   pub tables-are : (d : Decision) → decisionOf c ≡ d → tablesFor d t x vs ≡ tablesAfter t (answerOf c)
-  unfolding refused answered listed recordIn slotIn slotsOpened slotsWithout
-  tables-are (Refuse r) e = rw (told c r e) (same-tables (refused c r) (Refuse r) slots-kept registers-kept)
+  unfolding refused answered listed recordIn slotIn slotsPending slotsWithout
+  tables-are (Refuse r) e = rw (refused-answer c r e) (same-tables (refused c r) (Refuse r) slots-kept registers-kept)
   tables-are Reset e = same-tables (done Reset) Reset refl registers-kept ∙ ap (tablesAfter t) (effect-of c Reset e refl)
   tables-are (Pend k) e =
       let w = pend-place c k e in

@@ -1,6 +1,6 @@
 // The engine over tables by value: a request, the tables, a response buffer and a supplement give an accepted answer or
-// a refusal (document 01). The cards of the register rows are lent inside: question 3 reads each once, and what it finds
-// serves the decision, the response and the change of the rows.
+// a refusal (document 01). The cards of the register rows are lent inside: question 3 reads each once, and what it
+// finds serves the decision, the response and the change of the rows.
 use engine::Outcome;
 use register_keys::Findings;
 use rows::SlotRow;

@@ -14,19 +14,19 @@ use Rattle.responses.specs.Responses.{Reply, replyBytes}
 use Rattle.history.specs.History.{finally, trace}
 use Rattle.history.specs.Model.{Item}
 use Rattle.history.specs.Demand3.{Demand3}
-use Rattle.rows.specs.Reports.{slotNames}
+use Rattle.rows.specs.RowReplies.{slotNames}
 use Rattle.engine.specs.Questions.{Call, areCounts, questions}
 use Rattle.engine.specs.Answers.{Answer, response, responseOf, bufferAfter, refused, answerOf}
 use Rattle.engine.specs.Outcomes.{outcomeNumber}
-use Rattle.engine.specs.Words.{Lent, Handed, callOf, tablesOf, itemOf, itemAt, rowsAfter, emptyRows}
+use Rattle.engine.specs.Words.{Lent, Input, callOf, tablesOf, itemOf, itemAt, rowsAfter, emptyRows}
 use Rattle.engine.proofs.ReadsBack.{reads-back}
 use Rattle.engine.proofs.Demand3 as engine
 use Rattle.answer_numbers.specs.Numbers.{stateByte}
-use Rattle.diminurel.specs.Handles.{Run, Handles, handedIn, answerIn}
+use Rattle.diminurel.specs.Handles.{Run, Handles, inputIn, answerIn}
 use Rattle.demands.specs.Demands.{Runs, itemIn, HoldsOfLists, plain, HasRuns}
 
 -- what was handed in, with the sequence that SM?GL's list had
-abbrev sequenced : (t : Lent) (r : Run) (u : Lent) → Handles t r u → Handed
+abbrev sequenced : (t : Lent) (r : Run) (u : Lent) → Handles t r u → Input
 sequenced t r u h = record { request = r .request; supplement = r .supplement; buffer = r .before; sequence = h .written .0 }
 
 same-item : (t : Lent) (r : Run) (u : Lent) (h : Handles t r u) → itemIn r ≡ itemAt t (sequenced t r u h)
@@ -37,7 +37,7 @@ same-rows t r u h = λ j. record { slots = h .slots-are j; registers = h .regist
 
 -- the calls are a list of which demand 3 is proved
 record Same (t : Lent) (rs : List Run) (w : Lent) : Type 0 where
-  calls : List Handed
+  calls : List Input
   items : map itemIn rs ≡ trace rowsAfter itemAt t calls
   rows : w ≡ finally rowsAfter itemAt t calls
 
@@ -87,7 +87,7 @@ module _ (x : Call) (names : List (List ℕ)) where
           omega (arith, whole-short (replyBytes r) whole, leb-true 1024 (x .room) w)
       go (some r) e false w = nope (let z = sym e ∙ short-unwritten w in cc)
 
-module _ (rows : Lent) (e : Handed) where
+module _ (rows : Lent) (e : Input) where
   abbrev answer : Answer
   answer = answerOf (callOf rows (plain e))
 
@@ -119,7 +119,7 @@ module _ (rows : Lent) (e : Handed) where
     registers-are = refl;
   }
 
-pub every-list : (rows : Lent) (inputs : List Handed) → HasRuns rows inputs
+pub every-list : (rows : Lent) (inputs : List Input) → HasRuns rows inputs
 every-list rows [] = record { runs = []; left = rows; go = refl; given = refl }
 every-list rows (e ∷ es) =
     let k = every-list (left rows e) es in
@@ -127,5 +127,5 @@ every-list rows (e ∷ es) =
       runs = run rows e ∷ k .runs;
       left = k .left;
       go = (left rows e, (handles rows e, k .go));
-      given = ap (λ (l : List Handed). plain e ∷ l) (k .given);
+      given = ap (λ (l : List Input). plain e ∷ l) (k .given);
     }

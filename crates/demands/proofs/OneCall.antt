@@ -29,7 +29,7 @@ use Rattle.engine.proofs.SlotStates.{isSession, state-left, state-carried}
 use Rattle.engine.proofs.AnswerLaws.{first-no-decides, refused-by, refused-keeps, no-reply-exactly}
 use Rattle.answer_cases.proofs.Numbers.{one-number, number-range, answer-zero, answer-within}
 use Rattle.answer_numbers.specs.Numbers.{stateByte}
-use Rattle.diminurel.specs.Handles.{Run, Handles, handedIn, answerIn}
+use Rattle.diminurel.specs.Handles.{Run, Handles, inputIn, answerIn}
 use Rattle.demands.specs.Demands.{responseIn, SaysReply, slotNameIn, Demand1, Demand2}
 
 -- a state's number is not 255
@@ -41,7 +41,7 @@ state-known Idle z = omega arith
 
 module _ (rows : Lent) (run : Run) (left : Lent) (h : Handles rows run left) where
   abbrev call : Call
-  call = callOf rows (handedIn run)
+  call = callOf rows (inputIn run)
 
   abbrev names : List (List ℕ)
   names = h .written .0

@@ -9,16 +9,16 @@ use mathlib.Core.Option.{Option, none, some}
 use lib.ListN.{length, take, drop}
 use Rattle.responses.specs.Responses.{Reply, Says}
 use Rattle.commands.specs.declared.Command.the-variants.{KC, KR, KL, KF, KX}
-use Rattle.rows.specs.Reports.{InSomeSequence}
+use Rattle.rows.specs.RowReplies.{InSomeSequence}
 use Rattle.history.specs.Model.{Item}
 use Rattle.history.specs.Demand3.{Demand3}
 use Rattle.engine.specs.Refusals.{refusal}
 use Rattle.engine.specs.Requests.{isAmong, commandIn, fieldsIn, slotIn}
 use Rattle.engine.specs.Questions.{slotNamed, questions, firstNo}
 use Rattle.engine.specs.Answers.{refusalReply}
-use Rattle.engine.specs.Words.{Handed, Lent, callOf, tablesOf, itemOf, emptyRows}
+use Rattle.engine.specs.Words.{Input, Lent, callOf, tablesOf, itemOf, emptyRows}
 use Rattle.engine.specs.declared.Refusal.{Refusal}
-use Rattle.diminurel.specs.Handles.{Run, Handles, handedIn, answerIn}
+use Rattle.diminurel.specs.Handles.{Run, Handles, inputIn, answerIn}
 
 -- the response: the first bytes of the buffer after the call, as many as was answered, never what lies beyond
 abbrev pub responseIn : Run → List ℕ
@@ -52,10 +52,10 @@ slotNameIn run = slotIn (commandIn (run .request)) (fieldsIn (run .request))
 -- DEMAND 2, of the same
 pub record Demand2 (rows : Lent) (run : Run) (left : Lent) : Type 0 where
   -- the request is accepted exactly when every question is a yes,
-  pub accepted : (run .outcome ≡ 0) ↔ (firstNo (questions (callOf rows (handedIn run))) ≡ none)
+  pub accepted : (run .outcome ≡ 0) ↔ (firstNo (questions (callOf rows (inputIn run))) ≡ none)
   -- and refused exactly by the first no
   pub refused : (r : Refusal)
-      → (run .outcome ≡ refusal r .number) ↔ (firstNo (questions (callOf rows (handedIn run))) ≡ some r)
+      → (run .outcome ≡ refusal r .number) ↔ (firstNo (questions (callOf rows (inputIn run))) ≡ some r)
   -- the response reads back as just the reply that the standards want, SM?GL's list in some sequence of the slots
   pub replied : InSomeSequence (rows .slots)
       (λ (names : List (List ℕ)). SaysReply (responseIn run) (answerIn rows run .reply names))
@@ -83,12 +83,12 @@ HoldsOfLists =
     → Demand3 (map itemIn runs) (tablesOf (left .slots) (left .registers))
 
 -- what is handed in, without the sequence of SM?GL's list
-abbrev pub plain : Handed → Handed
+abbrev pub plain : Input → Input
 plain e = record { request = e .request; supplement = e .supplement; buffer = e .buffer; sequence = [] }
 
 -- there are calls as promised for whatever is handed in, over whatever rows: no demand holds for want of one
-pub record HasRuns (rows : Lent) (inputs : List Handed) : Type 0 where
+pub record HasRuns (rows : Lent) (inputs : List Input) : Type 0 where
   pub runs : List Run
   pub left : Lent
   pub go : Runs rows runs left
-  pub given : map handedIn runs ≡ map plain inputs
+  pub given : map inputIn runs ≡ map plain inputs

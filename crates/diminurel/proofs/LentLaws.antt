@@ -7,7 +7,7 @@ use native.Mathlib.Omega.{arith}
 use lib.ListN.{length, take-append-drop}
 use lib.Seq.{take-length}
 use Rattle.rows.specs.Places.{slotRows, registerRows}
-use Rattle.rows.specs.Reports.{slotNames}
+use Rattle.rows.specs.RowReplies.{slotNames}
 use Rattle.rows.specs.declared.SlotRow.{SlotRow}
 use Rattle.rows.specs.declared.RegisterRow.{RegisterRow}
 use Rattle.rows.specs.declared.Supplement.{Supplement}

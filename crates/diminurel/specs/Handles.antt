@@ -11,7 +11,7 @@ use Rattle.rows.specs.declared.RegisterRow.{RegisterRow}
 use Rattle.rows.specs.declared.Supplement.{Supplement}
 use Rattle.engine.specs.Answers.{Answer, answerOf}
 use Rattle.engine.specs.Outcomes.{outcomeNumber}
-use Rattle.engine.specs.Words.{Handed, Lent, callOf}
+use Rattle.engine.specs.Words.{Input, Lent, callOf}
 use Rattle.answer_numbers.specs.Numbers.{stateByte}
 use Rattle.answer_numbers.specs.declared.Reply.{Reply}
 use Rattle.diminurel.specs.Lent.{LentResponded}
@@ -28,12 +28,12 @@ pub record Run : Type 0 where
   pub size : ℕ
 
 -- what was handed in (the sequence of SM?GL's list is no part of it)
-abbrev pub handedIn : Run → Handed
-handedIn run = record { request = run .request; supplement = run .supplement; buffer = run .before; sequence = [] }
+abbrev pub inputIn : Run → Input
+inputIn run = record { request = run .request; supplement = run .supplement; buffer = run .before; sequence = [] }
 
 -- the answer to it over the rows that are lent: the definition of which demand 3 is proved
 abbrev pub answerIn : Lent → Run → Answer
-answerIn rows run = answerOf (callOf rows (handedIn run))
+answerIn rows run = answerOf (callOf rows (inputIn run))
 
 -- THE PROMISE, with the rows before the call and after it
 pub record Handles (rows : Lent) (run : Run) (left : Lent) : Type 0 where

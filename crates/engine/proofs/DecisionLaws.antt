@@ -69,11 +69,11 @@ module _ (x : Call) (vs : List Value) (r s : List ℕ) where
   granted-for Unknown e = nope (cc)
 
 -- what is known where a decision is to carry out its command
-pub record Carried (x : Call) (d : Decision) : Type 0 where
+pub record Granted (x : Call) (d : Decision) : Type 0 where
   pub none-first : firstNo (questions x) ≡ none
   pub yeses : AllYes (questions x)
   pub command : commandIn (x .request) ≡ commandFor d
-  pub does : granted x (commandFor d) (fieldsIn (x .request)) (recordIn (commandFor d) (fieldsIn (x .request))) (slotIn (commandFor d) (fieldsIn (x .request))) ≡ d
+  pub grants : granted x (commandFor d) (fieldsIn (x .request)) (recordIn (commandFor d) (fieldsIn (x .request))) (slotIn (commandFor d) (fieldsIn (x .request))) ≡ d
   pub answers : answerOf x ≡ effect x (commandFor d) (fieldsIn (x .request)) (recordIn (commandFor d) (fieldsIn (x .request))) (slotIn (commandFor d) (fieldsIn (x .request)))
 
 module _ (x : Call) where
@@ -120,17 +120,17 @@ module _ (x : Call) where
       go (some q) w p = cc
       go none w p = let g = granted-for x vs (recordIn c vs) (slotIn c vs) c (one-of-ten (all-yes (questions x) w)) .1 in nope (cc)
 
-  pub told : (r : Refusal) → decisionOf x ≡ Refuse r → answerOf x ≡ refused x r
+  pub refused-answer : (r : Refusal) → decisionOf x ≡ Refuse r → answerOf x ≡ refused x r
   unfolding answerOf
-  told r e = rw (refused-first r e) refl
+  refused-answer r e = rw (refused-first r e) refl
 
-  pub carried : (d : Decision) → decisionOf x ≡ d → isRefuse d ≡ false → Carried x d
+  pub granted-answer : (d : Decision) → decisionOf x ≡ d → isRefuse d ≡ false → Granted x d
   unfolding decisionOf answerOf
-  carried d e n = go (firstNo (questions x)) refl e
+  granted-answer d e n = go (firstNo (questions x)) refl e
     where
-      go : (o : Option Refusal) → firstNo (questions x) ≡ o → decided o (granted x c vs (recordIn c vs) (slotIn c vs)) ≡ d → Carried x d
+      go : (o : Option Refusal) → firstNo (questions x) ≡ o → decided o (granted x c vs (recordIn c vs) (slotIn c vs)) ≡ d → Granted x d
       go (some q) w p = nope (cc)
       go none w p =
           let y = all-yes (questions x) w in
           let g : c ≡ commandFor d = sym (granted-for x vs (recordIn c vs) (slotIn c vs) c (one-of-ten y) .0) ∙ ap commandFor p in
-          record { none-first = w; yeses = y; command = g; does = rw (← g) p; answers = rw (w, ← g) refl }
+          record { none-first = w; yeses = y; command = g; grants = rw (← g) p; answers = rw (w, ← g) refl }

@@ -13,9 +13,9 @@ use Rattle.history.specs.Step.{Step}
 use Rattle.history.specs.Demand3.{Demand3}
 use Rattle.history.proofs.Theorem as theorem
 use Rattle.engine.specs.Answers.{response, answerOf}
-use Rattle.engine.specs.Words.{slotIs, registerIs, tablesOf, Handed, Lent, callOf, rowsAfter, answerBytes, itemAt, emptyRows}
+use Rattle.engine.specs.Words.{slotIs, registerIs, tablesOf, Input, Lent, callOf, rowsAfter, answerBytes, itemAt, emptyRows}
 use Rattle.engine.proofs.RowWords.{free-reads, free-register-reads}
-use Rattle.engine.proofs.Steps.{does}
+use Rattle.engine.proofs.Steps.{answer-step}
 
 -- the first bytes of the buffer, as many as the response has, are the response
 answer-is : (bytes buffer : List ℕ) → answerBytes bytes buffer ≡ bytes
@@ -24,13 +24,13 @@ answer-is bytes buffer = take-at bytes (drop (length bytes) buffer) (length byte
 abbrev pub rowsOf : Lent → Tables
 rowsOf t = tablesOf (t .slots) (t .registers)
 
-pub steps : (t : Lent) (e : Handed) → Step (rowsOf t) (itemAt t e) (rowsOf (rowsAfter t e))
-steps t e = rw (answer-is (response (answerOf (callOf t e)) (e .sequence)) (e .buffer)) (does (callOf t e) refl (e .sequence))
+pub steps : (t : Lent) (e : Input) → Step (rowsOf t) (itemAt t e) (rowsOf (rowsAfter t e))
+steps t e = rw (answer-is (response (answerOf (callOf t e)) (e .sequence)) (e .buffer)) (answer-step (callOf t e) refl (e .sequence))
 
 pub starts-empty : (a b : ℕ) → rowsOf (emptyRows a b) ≡ empty a b
 unfolding emptyRows empty
 starts-empty a b = rw (map-replicate slotIs a freeSlot, map-replicate registerIs b freeRegister, free-reads, free-register-reads) refl
 
-pub demand3 : (a b : ℕ) (calls : List Handed)
+pub demand3 : (a b : ℕ) (calls : List Input)
     → Demand3 (trace rowsAfter itemAt (emptyRows a b) calls) (rowsOf (finally rowsAfter itemAt (emptyRows a b) calls))
 demand3 a b calls = theorem.demand3 rowsAfter itemAt rowsOf steps (emptyRows a b) a b (starts-empty a b) calls

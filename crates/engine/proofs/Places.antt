@@ -19,7 +19,7 @@ use Rattle.rows.specs.declared.RegisterRow.{RegisterRow}
 use Rattle.rows.specs.declared.SlotState.the-variants.{Free}
 use Rattle.rows.proofs.ListLaws.{found, found-none, every-at}
 use Rattle.history.specs.Model.{State, slotRow, used, vacant, key}
-use Rattle.history.specs.Step.{Spot, own, fresh, Home, held, spare}
+use Rattle.history.specs.Step.{SessionPlace, own, fresh, StorePlace, held, spare}
 use Rattle.engine.specs.Questions.{slotPlace, freePlace, keyPlace, vacantPlace, isPlace, placeElse, sessionPlace, storePlace, isFilled}
 use Rattle.engine.specs.Words.{stateIn, registerIs, tablesOf}
 use Rattle.engine.proofs.RowWords.{slot-row, named-reads, reads-named, free-state-reads, free-vacant, register-row, vacant-reads, key-reads, reads-key}
@@ -54,7 +54,7 @@ pub record SpotAt (slots : List SlotRow) (registers : List RegisterRow) (s : Lis
   pub place : ℕ
   pub is : sessionPlace s slots ≡ some place
   pub within : place < length slots
-  pub spot : Spot (tablesOf slots registers) s place
+  pub spot : SessionPlace (tablesOf slots registers) s place
 
 module _ (slots : List SlotRow) (registers : List RegisterRow) (s : List ℕ) (h : everyRow isSlotSound slots ≡ true) where
   spot-from : (o f : Option ℕ) → slotPlace s slots ≡ o → freePlace slots ≡ f → isPlace (placeElse o f) ≡ true → SpotAt slots registers s
@@ -88,7 +88,7 @@ pub record HomeAt (slots : List SlotRow) (registers : List RegisterRow) (g k : L
   pub place : ℕ
   pub is : storePlace g k registers ≡ some place
   pub within : place < length registers
-  pub home : Home (tablesOf slots registers) g k place
+  pub home : StorePlace (tablesOf slots registers) g k place
 
 pub free-keyless : (g k : List ℕ) → isKeyOf g k freeRegister ≡ false
 unfolding isKeyOf

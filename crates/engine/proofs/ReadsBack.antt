@@ -33,10 +33,10 @@ use Rattle.rows.specs.Lists.{everyRow, distinctRows}
 use Rattle.rows.specs.Slots.{isSlotSound, isSameSlot}
 use Rattle.rows.specs.Registers.{isVacant, isRegisterSound, freeRegister}
 use Rattle.rows.specs.Sound.{areSound}
-use Rattle.rows.specs.Reports.{storedIn, slotNames, nameFields, queryFields}
+use Rattle.rows.specs.RowReplies.{storedIn, slotNames, nameFields, queryFields}
 use Rattle.rows.specs.Supplements.{loadRequest, isIdentityRight, isLoadRequestRight, isWellFormed}
 use Rattle.rows.proofs.ListLaws.{every-at}
-use Rattle.rows.proofs.ReportLaws.{sequence-values, query-values, stored-values}
+use Rattle.rows.proofs.RowReplyLaws.{sequence-values, query-values, stored-values}
 use Rattle.engine.specs.Refusals.{RefusalEntry, refusal}
 use Rattle.engine.specs.Requests.{commandIn, fieldsIn, isOneOfTen, registerIn, recordIn, slotIn, firstText, kmcIdentityIn}
 use Rattle.engine.specs.Questions.{Call, areCounts, slotNamed, registerNumbered, isFilled, questions, firstNo}
@@ -52,11 +52,11 @@ abbrev isHeader : List ℕ → Bool
 isHeader h = eqb (length h) 5 && areAll Printable h
 
 -- fields that a response can carry
-record Carried (fields : List Value) : Type 0 where
+record CanBeSent (fields : List Value) : Type 0 where
   values : areValues fields ≡ true
   short : length (payloadBytes fields) ≤ 1012
 
-reads : (r : Reply) → isHeader (r .header) ≡ true → length (r .status) ≡ 2 → areAll Printable (r .status) ≡ true → Carried (r .fields) → Says (replyBytes r) r
+reads : (r : Reply) → isHeader (r .header) ≡ true → length (r .status) ≡ 2 → areAll Printable (r .status) ≡ true → CanBeSent (r .fields) → Says (replyBytes r) r
 reads r e two p c =
     let h = r .header in
     reply-reads r (eqb-true (length h) 5 (and-first (eqb (length h) 5) (areAll Printable h) e)) two (and-second (eqb (length h) 5) (areAll Printable h) e) p (c .values) (c .short)
@@ -114,18 +114,18 @@ module _ (x : Call) (r : Refusal) where
       go (inr w) = rw (w .0 .is) (refusal-reads (w .0 .header) (refusal r) (under-header (x .request) (w .0 .header) (w .0 .under)) (w .1))
 
 -- an accepted answer
-yes-back : (x : Call) (c : Command) (vs : List Value) → Yes x c vs → commandIn (x .request) ≡ c → (fields : List Value) → Carried fields → ReadsBack (some (replyTo (headerOf (x .request)) accepted fields))
+yes-back : (x : Call) (c : Command) (vs : List Value) → Yes x c vs → commandIn (x .request) ≡ c → (fields : List Value) → CanBeSent fields → ReadsBack (some (replyTo (headerOf (x .request)) accepted fields))
 unfolding areAll
 yes-back x c vs y e fields k = reads (replyTo (headerOf (x .request)) accepted fields) (built-header (x .request) (rw e (y .header))) refl refl k
 
-no-fields : Carried []
+no-fields : CanBeSent []
 no-fields = record { values = refl; short = omega arith }
 
 name-text : (s : List ℕ) → isIdentifier s ≡ true → areAll Text s ≡ true
 name-text s e = in-form-text Name s e
 
 -- SM?KR: the slot's KMCID
-one-name : (s : List ℕ) → isIdentifier s ≡ true → Carried (string s ∷ [])
+one-name : (s : List ℕ) → isIdentifier s ≡ true → CanBeSent (string s ∷ [])
 one-name s i = record { values = rw (name-text s i) refl; short = omega (arith, after-string s [] 40 0 (name-short s i) (omega arith)) }
 
 -- SM?KC: it, and the load request of the supplement
@@ -149,7 +149,7 @@ module _ (x : Call) (c : Command) (vs : List Value) (y : Yes x c vs) where
       let n = leb-true (z .«request_length») 700 (and-first (leb (z .«request_length») 700) (areAll Text (loadRequest z)) (and-second (leb 1 (z .«request_length»)) _ request-right)) in
       omega (arith, length-take (z .«request_length») (z .request))
 
-  name-and-request : (s : List ℕ) → isIdentifier s ≡ true → Carried (string s ∷ string (loadRequest (x .supplement)) ∷ [])
+  name-and-request : (s : List ℕ) → isIdentifier s ≡ true → CanBeSent (string s ∷ string (loadRequest (x .supplement)) ∷ [])
   name-and-request s i =
       let z = loadRequest (x .supplement) in
       record {
@@ -158,7 +158,7 @@ module _ (x : Call) (c : Command) (vs : List Value) (y : Yes x c vs) where
       }
 
 -- SM?GA: the card of the register
-shown-card : (x : Call) (vs : List Value) → Yes x GA vs → Carried (string (storedIn (registerNumbered (registerIn vs) (x .registers))) ∷ [])
+shown-card : (x : Call) (vs : List Value) → Yes x GA vs → CanBeSent (string (storedIn (registerNumbered (registerIn vs) (x .registers))) ∷ [])
 unfolding areSound isFilled
 shown-card x vs y =
     let rows = x .registers in
@@ -188,7 +188,7 @@ module _ (x : Call) (m : x .slotCount ≡ length (x .slots)) (n : x .registerCou
       omega (arith, n)
 
   -- SM?KQ: what the row of a known slot holds
-  queried : (vs : List Value) → Yes x KQ vs → Carried (queryFields (slotNamed (slotIn KQ vs) (x .slots)) (x .registers))
+  queried : (vs : List Value) → Yes x KQ vs → CanBeSent (queryFields (slotNamed (slotIn KQ vs) (x .slots)) (x .registers))
   queried vs y =
       let k = known-at (x .slots) (slotIn KQ vs) (y .known) in
       let row = v x KQ vs y k in
@@ -201,7 +201,7 @@ module _ (x : Call) (m : x .slotCount ≡ length (x .slots)) (n : x .registerCou
       }
 
   -- SM?GL: the names, in whatever sequence
-  named-slots : (vs : List Value) → Yes x GL vs → Carried (nameFields names)
+  named-slots : (vs : List Value) → Yes x GL vs → CanBeSent (nameFields names)
   named-slots vs y =
       record {
         values = sequence-values names (x .slots) p (slots-sound x GL vs y);
@@ -209,7 +209,7 @@ module _ (x : Call) (m : x .slotCount ≡ length (x .slots)) (n : x .registerCou
       }
 
   -- SM?KL: register and card
-  loaded : (vs : List Value) (y : Yes x KL vs) → Carried (loadFields x vs y)
+  loaded : (vs : List Value) (y : Yes x KL vs) → CanBeSent (loadFields x vs y)
   loaded vs y =
       let card = stored x vs y in
       record {

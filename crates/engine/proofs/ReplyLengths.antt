@@ -23,11 +23,11 @@ use Rattle.stored_cards.specs.Stored.{isStored}
 use Rattle.rows.specs.Lists.{everyRow, trimmed, rowsThat, numbersFrom}
 use Rattle.rows.specs.Slots.{hasState, kmcidOf, isSlotSound}
 use Rattle.rows.specs.Registers.{isVacant, isUnder, isRegisterSound}
-use Rattle.rows.specs.Reports.{storedIn, slotNames, nameFields, stateText, slotFields, registersUnder, numberFields, queryFields}
+use Rattle.rows.specs.RowReplies.{storedIn, slotNames, nameFields, stateText, slotFields, registersUnder, numberFields, queryFields}
 use Rattle.rows.specs.declared.SlotRow.{SlotRow}
 use Rattle.rows.specs.declared.RegisterRow.{RegisterRow}
 use Rattle.rows.specs.declared.SlotState.the-variants.{Free, Pending, Loading}
-use Rattle.rows.proofs.ReportLaws.{notFree, sound-kmcid, sound-fingerprint, sound-tvp, every-sequence}
+use Rattle.rows.proofs.RowReplyLaws.{notFree, sound-kmcid, sound-fingerprint, sound-tvp, every-sequence}
 
 -- a string field and fields after it
 pub after-string : (v : List ℕ) (vs : List Value) (a b : ℕ) → length v ≤ a → length (payloadBytes vs) ≤ b → length (payloadBytes (string v ∷ vs)) ≤ a + 2 + b

@@ -11,7 +11,7 @@ use Rattle.responses.specs.Responses.{Reply}
 use Rattle.commands.specs.declared.Command.{Command}
 use Rattle.commands.specs.declared.Command.the-variants.{RS, KC, KR, KL, KF, KX, KD, GA, GL, KQ, Unknown}
 use Rattle.rows.specs.Slots.{kmcidOf}
-use Rattle.rows.specs.Reports.{slotFields, registersUnder, queryFields}
+use Rattle.rows.specs.RowReplies.{slotFields, registersUnder, queryFields}
 use Rattle.engine.specs.FieldTypes.{Number, String, areOfTypes, messages}
 use Rattle.engine.specs.Refusals.{Header, general, own, RefusalEntry, refusal}
 use Rattle.engine.specs.Requests.{areFieldsOf, commandIn, fieldsIn, recordIn, slotIn}

@@ -25,7 +25,7 @@ use Rattle.rows.specs.declared.SlotState.the-variants.{Free, Pending, Loading, 
 use Rattle.rows.proofs.ListLaws.{trimmed-padded, trimmed-all}
 use Rattle.engine.specs.Requests.{isAmong, commandIn, fieldsIn, recordIn, kmcIdentityIn, slotIn, firstText}
 use Rattle.engine.specs.Questions.{Call, slotPlace, freePlace, placeElse, sessionPlace, slotNamed, questions, firstNo}
-use Rattle.engine.specs.Answers.{slotsMoved, slotsOpened, slotsWithout, answered, listed, effect, refused, answerTo, answerOf}
+use Rattle.engine.specs.Answers.{slotsMoved, slotsPending, slotsWithout, answered, listed, effect, refused, answerTo, answerOf}
 use Rattle.engine.specs.declared.Refusal.{Refusal}
 use Rattle.engine.specs.declared.Outcome.{Outcome}
 use Rattle.engine.specs.declared.Outcome.the-variants.{Accepted, Done, Refused}
@@ -134,7 +134,7 @@ Leaves a s slots = hasState a (slotNamed s slots) ≡ true
 
 module _ (x : Call) (vs : List Value) where
   leaves-kc : Yes x KC vs → Leaves Pending (slotIn KC vs) (effect x KC vs (recordIn KC vs) (slotIn KC vs) .slots)
-  unfolding answered slotsOpened recordIn slotIn sessionPlace
+  unfolding answered slotsPending recordIn slotIn sessionPlace
   leaves-kc y =
       let q = kmcIdentityIn (firstText vs) in
       let p = spot-at (x .slots) (x .registers) (nameIn q) (slots-sound x KC vs y) (y .spot) in

@@ -46,7 +46,7 @@ use Rattle.history.specs.Model.{pending, loading, idle, used, free, key, kl, lo
 use Rattle.history.specs.Step.{Step, refuses, reads, starts, responds, loads, finishes, deletes, clears, resets}
 use Rattle.engine.specs.Requests.{commandIn, fieldsIn, isOneOfTen, registerIn, recordIn, kmcIdentityIn, slotIn, cardIn, firstText}
 use Rattle.engine.specs.Questions.{Call, asked, areCounts, isPlace, slotPlace, sessionPlace, storePlace, slotNamed, placeIn, isFilled, groupIn, revisionIn, questions, firstNo}
-use Rattle.engine.specs.Answers.{Answer, response, accepted, slotsMoved, slotsOpened, slotsWithout, loadedCard, cardPlace, answered, listed, effect, answerTo, answerOf}
+use Rattle.engine.specs.Answers.{Answer, response, accepted, slotsMoved, slotsPending, slotsWithout, loadedCard, cardPlace, answered, listed, effect, answerTo, answerOf}
 use Rattle.engine.specs.Answers as answers
 use Rattle.engine.specs.Words.{stateIn, slotIs, registerIs, tablesOf, requestOf, itemFor, isAccepted}
 use Rattle.engine.specs.declared.Refusal.{Refusal}
@@ -60,8 +60,8 @@ abbrev pub Moves : Call → Item → Answer → Type 0
 Moves x ι a = Step (tablesOf (x .slots) (x .registers)) ι (tablesOf (a .slots) (a .registers))
 
 -- an answer to a call with the command c and the fields vs is a step, whatever sequence SM?GL's list has
-abbrev pub Does : Call → Command → List Value → Answer → Type 0
-Does x c vs a = (names : List (List ℕ)) → Moves x (itemFor (requestOf c vs) (response a names)) a
+abbrev pub IsStep : Call → Command → List Value → Answer → Type 0
+IsStep x c vs a = (names : List (List ℕ)) → Moves x (itemFor (requestOf c vs) (response a names)) a
 
 -- what is known of an accepted request
 pub record Yes (x : Call) (c : Command) (vs : List Value) : Type 0 where
@@ -96,9 +96,9 @@ yes-of x e =
     }
 
 -- a refusal
-does-refused : (x : Call) (c : Command) (vs : List Value) (r : Refusal) → firstNo (questions x) ≡ some r → Does x c vs (answers.refused x r)
+refused-step : (x : Call) (c : Command) (vs : List Value) (r : Refusal) → firstNo (questions x) ≡ some r → IsStep x c vs (answers.refused x r)
 unfolding answers.refused
-does-refused x c vs r e names = rw (refusal-said x r e) (refuses (requestOf c vs))
+refused-step x c vs r e names = rw (refusal-said x r e) (refuses (requestOf c vs))
 
 pub slots-sound : (x : Call) (c : Command) (vs : List Value) → Yes x c vs → everyRow isSlotSound (x .slots) ≡ true
 unfolding areSound
@@ -149,9 +149,9 @@ pub key-identity : (r : List ℕ) → publicKeyInForm r ≡ true → identityInF
 unfolding publicKeyInForm
 key-identity r e = and-first (identityInForm (kmcIdentityIn r)) _ e
 
-does-kc : (x : Call) (vs : List Value) → Yes x KC vs → Does x KC vs (effect x KC vs (recordIn KC vs) (slotIn KC vs))
-unfolding answered slotsOpened recordIn slotIn
-does-kc x vs y names =
+kc-step : (x : Call) (vs : List Value) → Yes x KC vs → IsStep x KC vs (effect x KC vs (recordIn KC vs) (slotIn KC vs))
+unfolding answered slotsPending recordIn slotIn
+kc-step x vs y names =
     let q = kmcIdentityIn (firstText vs) in
     let p = spot-at (x .slots) (x .registers) (nameIn q) (slots-sound x KC vs y) (y .spot) in
     let i = identity-name q (key-identity (firstText vs) (and-first (publicKeyInForm (firstText vs)) _ (y .form))) in
@@ -159,9 +159,9 @@ does-kc x vs y names =
     let m = map-set slotIs (x .slots) (p .place) (filledSlot Pending (nameIn q) (fingerprintIn q) (x .supplement .clock)) in
     rw (says-yes x KC vs y, p .is, m, w) (starts (nameIn q) (p .place) (rw length-map (p .within)) (p .spot))
 
-does-kr : (x : Call) (vs : List Value) → Yes x KR vs → Does x KR vs (effect x KR vs (recordIn KR vs) (slotIn KR vs))
+kr-step : (x : Call) (vs : List Value) → Yes x KR vs → IsStep x KR vs (effect x KR vs (recordIn KR vs) (slotIn KR vs))
 unfolding answered
-does-kr x vs y names =
+kr-step x vs y names =
     let k = known-at (x .slots) (slotIn KR vs) (y .known) in
     let w : eqb (v x KR vs y k .state) 1 ≡ true = rw (row-is x KR vs y k) at (and-first (hasState Pending (slotNamed (slotIn KR vs) (x .slots))) _ (y .state)) in
     let e : getD (map slotIs (x .slots)) (k .place) free ≡ used (slotIn KR vs) pending = row-reads x KR vs y k ∙ rw w refl in
@@ -176,9 +176,9 @@ not-idle n h e = go (eqb n 1) (eqb n 2) h e
     go false true w z = nope (cc)
     go false false w z = nope (cc)
 
-does-kf : (x : Call) (vs : List Value) → Yes x KF vs → Does x KF vs (effect x KF vs (recordIn KF vs) (slotIn KF vs))
+kf-step : (x : Call) (vs : List Value) → Yes x KF vs → IsStep x KF vs (effect x KF vs (recordIn KF vs) (slotIn KF vs))
 unfolding answered
-does-kf x vs y names =
+kf-step x vs y names =
     let k = known-at (x .slots) (slotIn KF vs) (y .known) in
     let w : (hasState Pending (v x KF vs y k) || hasState Loading (v x KF vs y k)) ≡ true = rw (row-is x KF vs y k) at (y .state) in
     rw (says-yes x KF vs y, slots-moved x KF vs y k Idle refl) (finishes (slotIn KF vs) (k .place) _ (not-idle (v x KF vs y k .state) w) (row-reads x KF vs y k))
@@ -192,15 +192,15 @@ rs-slots : (x : Call) (vs : List Value) → Yes x RS vs → map slotIs (effect x
 unfolding answered
 rs-slots x vs y = map-sweep slotIs isSlotSound resetSlot stopped reset-reads (x .slots) (slots-sound x RS vs y)
 
-does-kx : (x : Call) (vs : List Value) → Yes x KX vs → Does x KX vs (effect x KX vs (recordIn KX vs) (slotIn KX vs))
+kx-step : (x : Call) (vs : List Value) → Yes x KX vs → IsStep x KX vs (effect x KX vs (recordIn KX vs) (slotIn KX vs))
 unfolding answered dropSlot
-does-kx x vs y names =
+kx-step x vs y names =
     let k = known-at (x .slots) (slotIn KX vs) (y .known) in
     rw (says-yes x KX vs y, slots-without x KX vs y k, kx-registers x vs) (deletes (slotIn KX vs) (k .place) _ (row-reads x KX vs y k))
 
-does-rs : (x : Call) (vs : List Value) → Yes x RS vs → Does x RS vs (effect x RS vs (recordIn RS vs) (slotIn RS vs))
+rs-step : (x : Call) (vs : List Value) → Yes x RS vs → IsStep x RS vs (effect x RS vs (recordIn RS vs) (slotIn RS vs))
 unfolding answered reset
-does-rs x vs y names = rw (says-yes x RS vs y, rs-slots x vs y) resets
+rs-step x vs y names = rw (says-yes x RS vs y, rs-slots x vs y) resets
 
 -- a key that is loaded: the rows after it
 module _ (x : Call) (vs : List Value) (y : Yes x KL vs) where
@@ -288,15 +288,15 @@ module _ (x : Call) (vs : List Value) (y : Yes x KL vs) where
     pub load-reads : fieldsOf (responseBytes (headerOf (x .request)) accepted loadFields) ≡ loadFields
     load-reads = reply-fields (replyTo (headerOf (x .request)) accepted loadFields) (answered-five (headerOf (x .request)) (header-five (x .request) (y .whole))) refl load-values
 
-    does-kl : Does x KL vs (effect x KL vs (recordIn KL vs) name)
-    does-kl names = rw (kl-reply names, says-yes x KL vs y, load-reads, add-one (register-at .place)) steps-kl
+    kl-step : IsStep x KL vs (effect x KL vs (recordIn KL vs) name)
+    kl-step names = rw (kl-reply names, says-yes x KL vs y, load-reads, add-one (register-at .place)) steps-kl
 
 -- a register that is deleted
 module _ (x : Call) (vs : List Value) (y : Yes x KD vs) where
-  does-kd-of : (n : ℕ) → registerIn vs ≡ n → isFilled n (x .registers) ≡ true → Does x KD vs (effect x KD vs (recordIn KD vs) (slotIn KD vs))
+  kd-step-of : (n : ℕ) → registerIn vs ≡ n → isFilled n (x .registers) ≡ true → IsStep x KD vs (effect x KD vs (recordIn KD vs) (slotIn KD vs))
   unfolding answered isFilled
-  does-kd-of zero e f names = nope (cc)
-  does-kd-of (suc i) e f names =
+  kd-step-of zero e f names = nope (cc)
+  kd-step-of (suc i) e f names =
       let m : suc i - 1 ≡ i = omega arith in
       let r = getD (x .registers) i freeRegister in
       let g = rw m at (and-second (leb (suc i) (length (x .registers))) _ (and-second (leb 1 (suc i)) _ f)) in
@@ -304,58 +304,58 @@ module _ (x : Call) (vs : List Value) (y : Yes x KD vs) where
       rw (says-yes x KD vs y, e, m, map-set registerIs (x .registers) i freeRegister, free-register-reads)
       (clears i (attributeOf SGC r) (attributeOf KRN r) (attributeOf KSL r) (r .card) (register-row (x .registers) i ∙ filled-key r o))
 
-  does-kd : Does x KD vs (effect x KD vs (recordIn KD vs) (slotIn KD vs))
-  does-kd = does-kd-of (registerIn vs) refl (y .filled)
+  kd-step : IsStep x KD vs (effect x KD vs (recordIn KD vs) (slotIn KD vs))
+  kd-step = kd-step-of (registerIn vs) refl (y .filled)
 
 -- the three commands that only read rows
-does-ga : (x : Call) (vs : List Value) → Yes x GA vs → Does x GA vs (effect x GA vs (recordIn GA vs) (slotIn GA vs))
+ga-step : (x : Call) (vs : List Value) → Yes x GA vs → IsStep x GA vs (effect x GA vs (recordIn GA vs) (slotIn GA vs))
 unfolding answered
-does-ga x vs y names = rw (says-yes x GA vs y) reads
+ga-step x vs y names = rw (says-yes x GA vs y) reads
 
-does-gl : (x : Call) (vs : List Value) → Yes x GL vs → Does x GL vs (effect x GL vs (recordIn GL vs) (slotIn GL vs))
+gl-step : (x : Call) (vs : List Value) → Yes x GL vs → IsStep x GL vs (effect x GL vs (recordIn GL vs) (slotIn GL vs))
 unfolding listed
-does-gl x vs y names = rw (says-yes x GL vs y) reads
+gl-step x vs y names = rw (says-yes x GL vs y) reads
 
-does-kq : (x : Call) (vs : List Value) → Yes x KQ vs → Does x KQ vs (effect x KQ vs (recordIn KQ vs) (slotIn KQ vs))
+kq-step : (x : Call) (vs : List Value) → Yes x KQ vs → IsStep x KQ vs (effect x KQ vs (recordIn KQ vs) (slotIn KQ vs))
 unfolding answered
-does-kq x vs y names = rw (says-yes x KQ vs y) reads
+kq-step x vs y names = rw (says-yes x KQ vs y) reads
 
 -- each command: some item is its step, whatever the counts are;
 moves-effect : (x : Call) (c : Command) (vs : List Value) → Yes x c vs → (ι : Item) × Moves x ι (effect x c vs (recordIn c vs) (slotIn c vs))
-moves-effect x RS vs y = (_, does-rs x vs y [])
-moves-effect x KC vs y = (_, does-kc x vs y [])
-moves-effect x KR vs y = (_, does-kr x vs y [])
+moves-effect x RS vs y = (_, rs-step x vs y [])
+moves-effect x KC vs y = (_, kc-step x vs y [])
+moves-effect x KR vs y = (_, kr-step x vs y [])
 moves-effect x KL vs y = (loading-step x vs y, steps-kl x vs y)
-moves-effect x KF vs y = (_, does-kf x vs y [])
-moves-effect x KX vs y = (_, does-kx x vs y [])
-moves-effect x KD vs y = (_, does-kd x vs y [])
-moves-effect x GA vs y = (_, does-ga x vs y [])
-moves-effect x GL vs y = (_, does-gl x vs y [])
-moves-effect x KQ vs y = (_, does-kq x vs y [])
+moves-effect x KF vs y = (_, kf-step x vs y [])
+moves-effect x KX vs y = (_, kx-step x vs y [])
+moves-effect x KD vs y = (_, kd-step x vs y [])
+moves-effect x GA vs y = (_, ga-step x vs y [])
+moves-effect x GL vs y = (_, gl-step x vs y [])
+moves-effect x KQ vs y = (_, kq-step x vs y [])
 moves-effect x Unknown vs y = let z = y .header in nope (cc)
 
 -- the item that is read off the answer is it where the count of registers is the rows'
-does-effect : (x : Call) → x .registerCount ≡ length (x .registers) → (c : Command) (vs : List Value) → Yes x c vs → Does x c vs (effect x c vs (recordIn c vs) (slotIn c vs))
-does-effect x n RS vs y = does-rs x vs y
-does-effect x n KC vs y = does-kc x vs y
-does-effect x n KR vs y = does-kr x vs y
-does-effect x n KL vs y = does-kl x vs y n
-does-effect x n KF vs y = does-kf x vs y
-does-effect x n KX vs y = does-kx x vs y
-does-effect x n KD vs y = does-kd x vs y
-does-effect x n GA vs y = does-ga x vs y
-does-effect x n GL vs y = does-gl x vs y
-does-effect x n KQ vs y = does-kq x vs y
-does-effect x n Unknown vs y = let z = y .header in nope (cc)
+effect-step : (x : Call) → x .registerCount ≡ length (x .registers) → (c : Command) (vs : List Value) → Yes x c vs → IsStep x c vs (effect x c vs (recordIn c vs) (slotIn c vs))
+effect-step x n RS vs y = rs-step x vs y
+effect-step x n KC vs y = kc-step x vs y
+effect-step x n KR vs y = kr-step x vs y
+effect-step x n KL vs y = kl-step x vs y n
+effect-step x n KF vs y = kf-step x vs y
+effect-step x n KX vs y = kx-step x vs y
+effect-step x n KD vs y = kd-step x vs y
+effect-step x n GA vs y = ga-step x vs y
+effect-step x n GL vs y = gl-step x vs y
+effect-step x n KQ vs y = kq-step x vs y
+effect-step x n Unknown vs y = let z = y .header in nope (cc)
 
 -- THE STEP: every answer to every call
-pub does : (x : Call) → x .registerCount ≡ length (x .registers) → Does x (commandIn (x .request)) (fieldsIn (x .request)) (answerOf x)
+pub answer-step : (x : Call) → x .registerCount ≡ length (x .registers) → IsStep x (commandIn (x .request)) (fieldsIn (x .request)) (answerOf x)
 unfolding answerOf
-does x n = go (firstNo (questions x)) refl
+answer-step x n = go (firstNo (questions x)) refl
   where
-    go : (o : Option Refusal) → firstNo (questions x) ≡ o → Does x (commandIn (x .request)) (fieldsIn (x .request)) (answerTo x o (commandIn (x .request)) (fieldsIn (x .request)))
-    go (some r) e = does-refused x (commandIn (x .request)) (fieldsIn (x .request)) r e
-    go none e = does-effect x n (commandIn (x .request)) (fieldsIn (x .request)) (yes-of x e)
+    go : (o : Option Refusal) → firstNo (questions x) ≡ o → IsStep x (commandIn (x .request)) (fieldsIn (x .request)) (answerTo x o (commandIn (x .request)) (fieldsIn (x .request)))
+    go (some r) e = refused-step x (commandIn (x .request)) (fieldsIn (x .request)) r e
+    go none e = effect-step x n (commandIn (x .request)) (fieldsIn (x .request)) (yes-of x e)
 
 -- whatever the counts are, the rows after every answer are those after some step
 pub moves : (x : Call) → (ι : Item) × Moves x ι (answerOf x)
@@ -363,5 +363,5 @@ unfolding answerOf
 moves x = go (firstNo (questions x)) refl
   where
     go : (o : Option Refusal) → firstNo (questions x) ≡ o → (ι : Item) × Moves x ι (answerTo x o (commandIn (x .request)) (fieldsIn (x .request)))
-    go (some r) e = (_, does-refused x (commandIn (x .request)) (fieldsIn (x .request)) r e [])
+    go (some r) e = (_, refused-step x (commandIn (x .request)) (fieldsIn (x .request)) r e [])
     go none e = moves-effect x (commandIn (x .request)) (fieldsIn (x .request)) (yes-of x e)

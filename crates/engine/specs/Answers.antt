@@ -13,7 +13,7 @@ use Rattle.commands.specs.declared.Command.{Command}
 use Rattle.commands.specs.declared.Command.the-variants.{RS, KC, KR, KL, KF, KX, KD, GA, GL, KQ, Unknown}
 use Rattle.rows.specs.Slots.{freeSlot, filledSlot, movedSlot, resetSlot}
 use Rattle.rows.specs.Registers.{freeRegister, filledRegister, withoutSlot}
-use Rattle.rows.specs.Reports.{storedIn, nameFields, queryFields}
+use Rattle.rows.specs.RowReplies.{storedIn, nameFields, queryFields}
 use Rattle.rows.specs.Supplements.{loadRequest}
 use Rattle.rows.specs.declared.SlotRow.{SlotRow}
 use Rattle.rows.specs.declared.RegisterRow.{RegisterRow}
@@ -60,8 +60,8 @@ slotsMoved a s rows = set rows (placeIn rows (slotPlace s rows)) (movedSlot a (s
 
 -- SM?KC: the slot of that KMCID, else the lowest free row, becomes PENDING with the record's fingerprint and the clock
 -- as TVP
-unfoldable pub slotsOpened : List ℕ → List ℕ → List ℕ → List SlotRow → List SlotRow
-slotsOpened s fingerprint clock rows =
+unfoldable pub slotsPending : List ℕ → List ℕ → List ℕ → List SlotRow → List SlotRow
+slotsPending s fingerprint clock rows =
     set rows (placeIn rows (sessionPlace s rows)) (filledSlot Pending s fingerprint clock)
 
 -- SM?KX: the row of the slot becomes free
@@ -120,7 +120,7 @@ effect x RS vs r s = answered x Done [] (map resetSlot (x .slots)) (x .registers
 -- SM?KC, 6.3.3: the slot becomes PENDING, its keys stay; slot and load request are replied
 effect x KC vs r s =
     answered x (Accepted Pending) (string s ∷ string (loadRequest (x .supplement)) ∷ [])
-    (slotsOpened s (fingerprintIn (kmcIdentityIn r)) (x .supplement .clock) (x .slots)) (x .registers)
+    (slotsPending s (fingerprintIn (kmcIdentityIn r)) (x .supplement .clock) (x .slots)) (x .registers)
 -- SM?KR, 6.3.4: PENDING becomes LOADING, TVP cleared; the slot is replied
 effect x KR vs r s = answered x (Accepted Loading) (string s ∷ []) (slotsMoved Loading s (x .slots)) (x .registers)
 -- SM?KL, 6.3.5: the key goes to the register that holds it, else to the lowest free one; register and stored card are

@@ -7,7 +7,7 @@ use lib.ListN.{length, drop}
 use denote.Ref.{RefT, now}
 use denote.Triple.Both.{Both}
 use Rattle.rows.specs.Places.{slotRows, registerRows}
-use Rattle.rows.specs.Reports.{InSomeSequence}
+use Rattle.rows.specs.RowReplies.{InSomeSequence}
 use Rattle.rows.specs.declared.Tables.{Tables}
 use Rattle.rows.specs.declared.Supplement.{Supplement}
 use Rattle.engine.specs.Questions.{Call}
@@ -62,6 +62,7 @@ abbrev pub IsAnswered
     → Type 0
 IsAnswered tables supplement request response outcome size after =
     (outcome ≡ answerOver tables supplement request response .outcome)
-    × (Responded tables (answerOver tables supplement request response) (now (response .entry)) size (now (response .exit))
+    × (Responded tables (answerOver tables supplement request response)
+    (now (response .entry)) size (now (response .exit))
     × ((after ≡ tablesAfter tables (answerOver tables supplement request response))
     × (size ≤ length (now (response .entry)))))

@@ -102,7 +102,7 @@ itemOf request answer = itemFor (requestOf (commandIn request) (fieldsIn request
 
 -- THE LIST: what is handed in at each call; each request with a supplement and a response buffer of its own. Beside
 -- them stands the sequence that the engine lists the slots in if it is SM?GL: whatever it is at each call
-pub record Handed : Type 0 where
+pub record Input : Type 0 where
   pub request : List ℕ
   pub supplement : Supplement
   pub buffer : List ℕ
@@ -112,7 +112,7 @@ pub record Lent : Type 0 where
   pub slots : List SlotRow
   pub registers : List RegisterRow
 
-abbrev pub callOf : Lent → Handed → Call
+abbrev pub callOf : Lent → Input → Call
 callOf t e = record {
   slots = t .slots;
   registers = t .registers;
@@ -124,14 +124,14 @@ callOf t e = record {
 }
 
 -- the rows after a call
-abbrev pub rowsAfter : Lent → Handed → Lent
+abbrev pub rowsAfter : Lent → Input → Lent
 rowsAfter t e = record { slots = answerOf (callOf t e) .slots; registers = answerOf (callOf t e) .registers }
 
 -- the answer to a call: the first bytes of the buffer, as many as the response has, never what lies beyond
 abbrev pub answerBytes : List ℕ → List ℕ → List ℕ
 answerBytes bytes buffer = take (length bytes) (bufferAfter bytes buffer)
 
-abbrev pub itemAt : Lent → Handed → Item
+abbrev pub itemAt : Lent → Input → Item
 itemAt t e = itemOf (e .request) (answerBytes (response (answerOf (callOf t e)) (e .sequence)) (e .buffer))
 
 -- empty tables: every row is zero

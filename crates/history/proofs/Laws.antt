@@ -9,7 +9,7 @@ use lib.Seq.{getD-set-same}
 use Rattle.octets.proofs.Flags.{nope}
 use Rattle.octets.proofs.StringLaws.{same-self}
 use Rattle.history.proofs.Rows.{clash, Stored, new, old, stored}
-use Rattle.history.specs.Step.{Spot, own, Home, held, spare, Step, refuses, reads, starts, responds, loads, finishes, deletes, clears, resets}
+use Rattle.history.specs.Step.{SessionPlace, own, StorePlace, held, spare, Step, refuses, reads, starts, responds, loads, finishes, deletes, clears, resets}
 use Rattle.history.proofs.Sound.{Sound, sound-step, used-within, key-within, spot-row, drop-key, drop-kept, drop-row, stop-row, stop-used}
 use Rattle.history.specs.Demand3.{LoadInto, Load, Deletion, Opens, Ends, closed, restarted, deleted, was-reset, StandsIn}
 use Rattle.history.specs.Model.{pending, loading, idle, Slot, free, used, vacant, key, Tables, kc, kr, kl, kf, kx, kd, rs, done, loaded, Item, _⇒_, slotRow, putSlot, putRegister, dropKey, dropSlot, reset}
@@ -109,7 +109,7 @@ key-keeps t ι t′ (responds u i q) g r n s c h k = h
 key-keeps t ι t′ (loads u g′ r′ d k′ i f b p) g r zero s c h k = h
 key-keeps t ι t′ (loads u g′ r′ d k′ i f b p) g r (suc j) s c h k = go (stored vacant (t .registers) i (key g′ r′ u d) j b) p
   where
-    go : Stored vacant (t .registers) i (key g′ r′ u d) j → Home t g′ r′ i → StandsIn (putRegister t i (key g′ r′ u d)) g r (suc j) s c
+    go : Stored vacant (t .registers) i (key g′ r′ u d) j → StorePlace t g′ r′ i → StandsIn (putRegister t i (key g′ r′ u d)) g r (suc j) s c
     go (new x y) (held s′ c′ q) =
         let zg : g′ ≡ g = cc in
         let zr : r′ ≡ r = cc in
@@ -130,7 +130,7 @@ key-keeps t ι t′ resets g r n s c h k = h
 
 -- SESSIONS
 -- after a store of the row of s that is not LOADING no session of s is open
-closes : (t : Tables) → Sound t → (s : List ℕ) (i : ℕ) → i < length (t .slots) → Spot t s i → (v : Slot) → v ≢ used s loading → ¬ Open s (putSlot t i v)
+closes : (t : Tables) → Sound t → (s : List ℕ) (i : ℕ) → i < length (t .slots) → SessionPlace t s i → (v : Slot) → v ≢ used s loading → ¬ Open s (putSlot t i v)
 closes t σ s i b p v n h = go (stored free (t .slots) i v (h .row) b)
   where
     go : Stored free (t .slots) i v (h .row) → ⊥

@@ -9,7 +9,7 @@ use Rattle.octets.proofs.Flags.{nope}
 use Rattle.octets.specs.Strings.{sameBytes}
 use Rattle.octets.proofs.StringLaws.{same-equal, same-self}
 use Rattle.history.proofs.Rows.{clash, within, Stored, new, old, stored, getD-none}
-use Rattle.history.specs.Step.{Spot, own, fresh, Home, held, spare, Step, refuses, reads, starts, responds, loads, finishes, deletes, clears, resets}
+use Rattle.history.specs.Step.{SessionPlace, own, fresh, StorePlace, held, spare, Step, refuses, reads, starts, responds, loads, finishes, deletes, clears, resets}
 use Rattle.history.specs.Model.{State, idle, Slot, free, used, Register, vacant, key, Tables, Item, slotRow, putSlot, putRegister, dropKey, dropSlot, stopped, reset, empty}
 
 -- no two rows have one name
@@ -42,16 +42,16 @@ pub key-within : (l : List Register) (i : ℕ) (g r : List ℕ) (s c : List ℕ)
 key-within l i g r s c e = within vacant l i (λ q. nope (cc))
 
 -- the row of s is the one where its session goes
-pub spot-row : (t : Tables) → Names (t .slots) → (s : List ℕ) (i : ℕ) → Spot t s i → (k : ℕ) (b : State) → slotRow t k ≡ used s b → k ≡ i
+pub spot-row : (t : Tables) → Names (t .slots) → (s : List ℕ) (i : ℕ) → SessionPlace t s i → (k : ℕ) (b : State) → slotRow t k ≡ used s b → k ≡ i
 spot-row t n s i (own a e) k b q = n k i s b a q e
 spot-row t n s i (fresh e f) k b q = absurd (f k b q)
 
-pub home-row : (t : Tables) → Keys (t .registers) → (g r : List ℕ) (i : ℕ) → Home t g r i → (k : ℕ) (s c : List ℕ) → getD (t .registers) k vacant ≡ key g r s c → k ≡ i
+pub home-row : (t : Tables) → Keys (t .registers) → (g r : List ℕ) (i : ℕ) → StorePlace t g r i → (k : ℕ) (s c : List ℕ) → getD (t .registers) k vacant ≡ key g r s c → k ≡ i
 home-row t n g r i (held s′ c′ e) k s c q = n k i g r s c s′ c′ q e
 home-row t n g r i (spare e f) k s c q = absurd (f k s c q)
 
 -- a store of a slot row
-names-put : (t : Tables) → Names (t .slots) → (s : List ℕ) (i : ℕ) (v : State) → i < length (t .slots) → Spot t s i → Names (set (t .slots) i (used s v))
+names-put : (t : Tables) → Names (t .slots) → (s : List ℕ) (i : ℕ) (v : State) → i < length (t .slots) → SessionPlace t s i → Names (set (t .slots) i (used s v))
 names-put t n s i v h p j k u a b e f = go (stored free (t .slots) i (used s v) j h) (stored free (t .slots) i (used s v) k h)
   where
     go : Stored free (t .slots) i (used s v) j → Stored free (t .slots) i (used s v) k → j ≡ k
@@ -73,10 +73,10 @@ names-free l n i h j k u a b e f = go (stored free l i free j h) (stored free l 
     go (old x q) (old y w) = n j k u a b (cc) (cc)
 
 -- every name that had a row has it still
-known-put : (t : Tables) (s : List ℕ) (i : ℕ) (v : State) → i < length (t .slots) → Spot t s i → (u : List ℕ) → Known (t .slots) u → Known (set (t .slots) i (used s v)) u
+known-put : (t : Tables) (s : List ℕ) (i : ℕ) (v : State) → i < length (t .slots) → SessionPlace t s i → (u : List ℕ) → Known (t .slots) u → Known (set (t .slots) i (used s v)) u
 known-put t s i v h p u k = go (stored free (t .slots) i (used s v) (k .row) h) p
   where
-    go : Stored free (t .slots) i (used s v) (k .row) → Spot t s i → Known (set (t .slots) i (used s v)) u
+    go : Stored free (t .slots) i (used s v) (k .row) → SessionPlace t s i → Known (set (t .slots) i (used s v)) u
     go (new x q) (own a e) = record { row = k .row; state = v; is = cc }
     go (new x q) (fresh e f) = record { row = k .row; state = v; is = cc }
     go (old x q) p = record { row = k .row; state = k .state; is = cc }
@@ -127,7 +127,7 @@ keys-drop : (s : List ℕ) (l : List Register) → Keys l → Keys (map (dropKey
 keys-drop s l n i j g r u c u′ c′ e f =
     n i j g r u c u′ c′ (drop-key s _ g r u c (rw drop-row at e) .0) (drop-key s _ g r u′ c′ (rw drop-row at f) .0)
 
-sound-put : (t : Tables) → Sound t → (s : List ℕ) (i : ℕ) (v : State) → i < length (t .slots) → Spot t s i → Sound (putSlot t i (used s v))
+sound-put : (t : Tables) → Sound t → (s : List ℕ) (i : ℕ) (v : State) → i < length (t .slots) → SessionPlace t s i → Sound (putSlot t i (used s v))
 sound-put t σ s i v h p = record {
   names = names-put t (σ .names) s i v h p;
   keys = σ .keys;

@@ -1,5 +1,5 @@
-// The tests behind questions 11 to 18 (document 01, "Questions in order"): each judges one record, row or supplement, or
-// makes one search of a table.
+// The tests behind questions 11 to 18 (document 01, "Questions in order"): each judges one record, row or supplement,
+// or makes one search of a table.
 use attributes::KRN;
 use attributes::SGC;
 use rows::Place;
@@ -55,7 +55,8 @@ pub fn known_place(slots: [SlotRow; 8], slot_count: usize, source: &[u8]) -> Pla
 // Question 13: that place, else the lowest free row.
 pub fn session_place(slots: [SlotRow; 8], slot_count: usize, source: &[u8]) -> Place
     requires { ⌜ «slot_count» ≤ 8 ⌝ }
-    ensures { λ p. ⌜ placeOf p ≡ sessionPlace (nameIn (kmcIdentityIn (now (source .entry)))) (take «slot_count» slots) ⌝ }
+    ensures { λ p. ⌜ placeOf p
+        ≡ sessionPlace (nameIn (kmcIdentityIn (now (source .entry)))) (take «slot_count» slots) ⌝ }
 {
     let known = known_place(slots, slot_count, source);
     if let Place::At(k) = known {

@@ -6,7 +6,7 @@ use Rattle.engine.specs.Outcomes.{outcomeNumber}
 use Rattle.engine.specs.declared.Refusal.{Refusal}
 use Rattle.engine.specs.declared.Outcome.{Outcome}
 use Rattle.engine.specs.declared.Outcome.the-variants.{Refused}
-use Rattle.refusal_numbers.specs.Tellings.{refusalIn}
+use Rattle.refusal_numbers.specs.RefusalForms.{refusalIn}
 use Rattle.refusal_numbers.specs.declared.Entry.{Entry}
 
 -- entry_of
@@ -14,8 +14,8 @@ pub entered : (r x : Refusal) (e : Entry) → r ≡ x → refusalIn e ≡ refusa
 entered r x e p q = q ∙ ap refusal (sym p)
 
 -- refusal_number, outcome_number
-pub number-told : (r : Refusal) (e : Entry) → refusalIn e ≡ refusal r → e .0 ≡ refusal r .number
-number-told r e p = ap (λ t. t .number) p
+pub number-is : (r : Refusal) (e : Entry) → refusalIn e ≡ refusal r → e .0 ≡ refusal r .number
+number-is r e p = ap (λ t. t .number) p
 
 pub refused-number : (o : Outcome) (r : Refusal) (n : ℕ) → o ≡ Refused r → n ≡ refusal r .number → n ≡ outcomeNumber o
 refused-number o r n p q = rw p q

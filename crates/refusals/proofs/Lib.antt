@@ -1,1 +1,1 @@
-pub mod TellingLaws
+pub mod RefusalLaws

@@ -1,6 +1,6 @@
 // Writes the response to each refusal (document 01, "Questions in order").
 use engine::Refusal;
-use refusal_numbers::Telling;
+use refusal_numbers::ReplyForm;
 ghost use mathlib.Core.Path.{_≡_};
 ghost use mathlib.Core.List.{[], _∷_};
 ghost use Prim.Native.Nat.{_+_, _≤_};
@@ -10,8 +10,8 @@ ghost use Rattle.fields.specs.Values.{string};
 ghost use Rattle.responses.specs.Responses.{responseBytes};
 ghost use Rattle.engine.specs.Refusals.{refusal, km};
 ghost use Rattle.engine.specs.Answers.{responseOf, refusalReply};
-ghost use Rattle.refusal_numbers.specs.Tellings.{statusIn, fieldsIn, sm};
-ghost use Rattle.refusals.specs.Tellings.{CanTell};
+ghost use Rattle.refusal_numbers.specs.RefusalForms.{statusIn, fieldsIn, sm};
+ghost use Rattle.refusals.specs.RefusalForms.{CanRefuse};
 
 // KM. and a number in two digits.
 fn km_text(number: u8) -> [u8; 5]
@@ -28,23 +28,23 @@ fn sm_text(digit: u8) -> [u8; 7]
 }
 
 // Writes the response to a refusal with a number under a header, and answers its length.
-fn tell(response: &mut [u8], header: &[u8], t: Telling, number: u8) -> usize
+fn write_refusal(response: &mut [u8], header: &[u8], t: ReplyForm, number: u8) -> usize
     requires { ⌜ (3 ≤ length (now header)) × (length (now header) + 16 ≤ length (now response)) ⌝ }
     ensures { λ r. ⌜ Writes response 0
         (responseBytes (now (header .entry)) (statusIn t) (fieldsIn t number)) r ⌝ }
     ensures fits { λ r. ⌜ r ≤ length (now (response .entry)) ⌝ }
 {
     match t {
-        Telling::Nothing => replies::reply(response, header, b""),
-        Telling::Status(a, b) => {
+        ReplyForm::Nothing => replies::reply(response, header, b""),
+        ReplyForm::Status(a, b) => {
             let s = [a, b];
             replies::reply(response, header, &s)
         }
-        Telling::Numbered => {
+        ReplyForm::Numbered => {
             let v = km_text(number);
             replies::reply_text(response, header, b"EE", &v)
         }
-        Telling::Module(d) => {
+        ReplyForm::Module(d) => {
             let v = sm_text(d);
             replies::reply_text(response, header, b"EE", &v)
         }
@@ -54,7 +54,7 @@ fn tell(response: &mut [u8], header: &[u8], t: Telling, number: u8) -> usize
 // Writes the response to a refused request, and answers its length: nothing for refusals 1 to 4, and under GL!ER
 // for 5 to 7.
 pub fn refuse(response: &mut [u8], request: &[u8], reason: Refusal) -> usize
-    requires { ⌜ CanTell (refusal reason .header) (length (now request)) (length (now response)) ⌝ }
+    requires { ⌜ CanRefuse (refusal reason .header) (length (now request)) (length (now response)) ⌝ }
     ensures { λ n. ⌜ Writes response 0
         (responseOf (refusalReply (now (request .entry)) reason)) n ⌝ }
     ensures fits { λ n. ⌜ n ≤ length (now (response .entry)) ⌝ }
@@ -66,7 +66,7 @@ pub fn refuse(response: &mut [u8], request: &[u8], reason: Refusal) -> usize
         return 0;
     }
     if n <= 7 {
-        return tell(response, b"GL!ER", t, n);
+        return write_refusal(response, b"GL!ER", t, n);
     }
-    tell(response, frames::header(request), t, n)
+    write_refusal(response, frames::header(request), t, n)
 }

@@ -63,7 +63,8 @@ pub fn reply_number_text(
     requires { ⌜ (3 ≤ length (now header))
         × (length (now header) + length (now status) + 12 + length (now text) + 2 + 5 ≤ length (now response)) ⌝ }
     ensures { λ r. ⌜ Writes response 0
-        (responseBytes (now (header .entry)) (now (status .entry)) (number integer ∷ string (now (text .entry)) ∷ [])) r ⌝ }
+        (responseBytes (now (header .entry)) (now (status .entry))
+        (number integer ∷ string (now (text .entry)) ∷ [])) r ⌝ }
     ensures fits { λ r. ⌜ r ≤ length (now (response .entry)) ⌝ }
 {
     let a = frame_writer::put_head(response, header, status);

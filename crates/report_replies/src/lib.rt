@@ -8,7 +8,7 @@ ghost use Rattle.fields.specs.Values.{string};
 ghost use Rattle.frames.specs.Frames.{headerOf};
 ghost use Rattle.responses.specs.Responses.{responseBytes};
 ghost use Rattle.rows.specs.Lists.{trimmed, numbersFrom};
-ghost use Rattle.rows.specs.Reports.{slotNames, nameFields, slotFields, numberFields};
+ghost use Rattle.rows.specs.RowReplies.{slotNames, nameFields, slotFields, numberFields};
 ghost use Rattle.row_index.specs.Found.{isThe};
 ghost use Rattle.engine.specs.Answers.{accepted};
 ghost use Rattle.session_replies.specs.Room.{HasRoom};
@@ -33,7 +33,8 @@ pub fn respond_names(
 ) -> usize
     requires { ⌜ («slot_count» ≤ 8) × HasRoom (length (now request)) (length (now response)) ⌝ }
     ensures { λ r. ⌜ Writes response 0
-        (responseBytes (headerOf (now (request .entry))) accepted (nameFields (slotNames (take «slot_count» slots)))) r ⌝ }
+        (responseBytes (headerOf (now (request .entry))) accepted
+        (nameFields (slotNames (take «slot_count» slots)))) r ⌝ }
     ensures fits { λ r. ⌜ r ≤ length (now (response .entry)) ⌝ }
 {
     slot_lists::reply_names(response, frames::header(request), slots, slot_count)

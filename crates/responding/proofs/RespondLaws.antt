@@ -17,7 +17,7 @@ use Rattle.rows.specs.Lists.{trimmed, numbersFrom}
 use Rattle.rows.specs.Slots.{freeSlot}
 use Rattle.rows.specs.Slots as slot
 use Rattle.rows.specs.Registers.{isUnder, freeRegister}
-use Rattle.rows.specs.Reports.{slotFields, numberFields, queryFields}
+use Rattle.rows.specs.RowReplies.{slotFields, numberFields, queryFields}
 use Rattle.rows.specs.declared.SlotRow.{SlotRow}
 use Rattle.rows.specs.declared.RegisterRow.{RegisterRow}
 use Rattle.card_writer.specs.declared.Stored.{Stored}
@@ -28,7 +28,7 @@ use Rattle.row_index.specs.Found.{isThe, AreOwnedBy}
 use Rattle.row_index.specs.Lent.{rowWith, rowsWith, tablesWith, tablesWithCards}
 use Rattle.row_index.proofs.LentLaws.{take-short}
 use Rattle.row_index.proofs.NumberLaws.{same-numbers}
-use Rattle.refusals.specs.Tellings.{CanTell}
+use Rattle.refusals.specs.RefusalForms.{CanRefuse}
 use Rattle.engine.specs.Requests.{fieldsIn, areFieldsOf}
 use Rattle.engine.specs.Refusals.{refusal}
 use Rattle.engine.specs.Answers.{accepted}
@@ -100,7 +100,7 @@ module _ (t : Tables) (x : Supplement) (q : List ℕ) where
 
 -- what an arm requires is known of its decision
 module _ (d : Decision) (slots : List SlotRow) (n : ℕ) (rows : List RegisterRow) (m : ℕ) (owners : List ℕ) (c : Stored) (x : Supplement) (q : List ℕ) (room : ℕ) (h : CanRespond d (tablesWith slots n rows m) owners c x q room) where
-  pub refuse-room : (r : Refusal) → d ≡ Refuse r → CanTell (refusal r .header) (length q) room
+  pub refuse-room : (r : Refusal) → d ≡ Refuse r → CanRefuse (refusal r .header) (length q) room
   refuse-room r p = rw p at h
 
   module _ (k : ℕ) where

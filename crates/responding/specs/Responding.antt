@@ -14,7 +14,7 @@ use Rattle.rows.specs.Slots.{freeSlot}
 use Rattle.rows.specs.Slots as slot
 use Rattle.rows.specs.Registers.{freeRegister}
 use Rattle.rows.specs.Places.{slotRows, registerRows}
-use Rattle.rows.specs.Reports.{storedIn, slotNames, nameFields, queryFields}
+use Rattle.rows.specs.RowReplies.{storedIn, slotNames, nameFields, queryFields}
 use Rattle.card_writer.specs.declared.Stored.{Stored}
 use Rattle.rows.specs.declared.Supplement.{Supplement}
 use Rattle.rows.specs.declared.Tables.{Tables}
@@ -29,7 +29,7 @@ use Rattle.engine.specs.declared.Decision.the-variants.{Refuse, Reset, Pend, Op
 use Rattle.engine.specs.declared.Decision.the-variants.{Delete, Clear, Show, Enumerate, Query}
 use Rattle.engine.specs.declared.Outcome.{Outcome}
 use Rattle.engine.specs.declared.Outcome.the-variants.{Accepted, Done, Refused}
-use Rattle.refusals.specs.Tellings.{CanTell}
+use Rattle.refusals.specs.RefusalForms.{CanRefuse}
 use Rattle.session_replies.specs.Room.{HasRoom}
 
 -- an accepted session command's answer carries the slot state that it leaves; session commands are KC, KR, KL, KF, KX
@@ -71,7 +71,7 @@ KnowsRegisters k t owners =
 
 -- what makes the response fit, c being the card that SM?KL stored; it is known of each decision
 abbrev pub CanRespond : Decision → Tables → List ℕ → Stored → Supplement → List ℕ → ℕ → Type 0
-CanRespond (Refuse r) t owners c x q room = CanTell (refusal r .header) (length q) room
+CanRespond (Refuse r) t owners c x q room = CanRefuse (refusal r .header) (length q) room
 CanRespond Reset t owners c x q room = HasRoom (length q) room
 CanRespond (Pend k) t owners c x q room =
     HasRoom (length q) room

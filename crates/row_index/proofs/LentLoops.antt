@@ -35,14 +35,14 @@ map-map {A} {B} {C} f g (x ∷ xs) = ap (λ (z : List C). f (g x) ∷ z) (map-ma
 
 -- f of the rows that are made of what is looped over
 module _ {A B : Type 0} (f : B → ℕ) (row : A → B) (d : A) (l : List A) (k : List ℕ) (i : ℕ) (inv : take i k ≡ map (λ (x : A). f (row x)) (take i l)) where
-  pub told-turn : i < length l → i < length k → (v : ℕ) → v ≡ f (row (getD l i d)) → take (i + 1) (set k i v) ≡ map (λ (x : A). f (row x)) (take (i + 1) l)
-  told-turn h z v e =
+  pub turn-written : i < length l → i < length k → (v : ℕ) → v ≡ f (row (getD l i d)) → take (i + 1) (set k i v) ≡ map (λ (x : A). f (row x)) (take (i + 1) l)
+  turn-written h z v e =
       let a : take (suc i) (set k i v) ≡ take i k ++ (v ∷ []) = take-suc-set k i v z in
       let c : take (suc i) l ≡ take i l ++ (getD l i d ∷ []) = take-suc l i d h in
       rw (add-one, a, c, map-append (λ (x : A). f (row x)) (take i l) (getD l i d), inv, e)
 
-  pub told-ended : length l ≤ i → i ≤ length l → take (length l) k ≡ map f (map row l)
-  told-ended h g =
+  pub turns-ended : length l ≤ i → i ≤ length l → take (length l) k ≡ map f (map row l)
+  turns-ended h g =
       let e : i ≡ length l = omega arith in
       let t : take (length l) k ≡ map (λ (x : A). f (row x)) l = rw (e, take-all (length l) l (omega arith)) at inv in
       t ∙ sym (map-map f row l)

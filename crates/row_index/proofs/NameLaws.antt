@@ -21,7 +21,7 @@ use Rattle.rows.specs.Index.{keptName, isCalled, isSameName, isOwnedBy}
 use Rattle.rows.specs.declared.SlotRow.{SlotRow}
 use Rattle.rows.specs.declared.RegisterRow.{RegisterRow}
 use Rattle.rows.specs.declared.SlotState.the-variants.{Free}
-use Rattle.rows.proofs.ReportLaws.{sound-kmcid}
+use Rattle.rows.proofs.RowReplyLaws.{sound-kmcid}
 use Rattle.row_index.proofs.Readings.{some-read, distinct-read, every-alike}
 
 zeros-trimmed : (k : List ℕ) → areAll Zero k ≡ true → trimmed k ≡ []

@@ -1,6 +1,6 @@
 pub mod ListLaws
 pub mod LoopLaws
 pub mod PlaceCounts
-pub mod ReportLaws
+pub mod RowReplyLaws
 pub mod WriteLoops
 pub mod FreeSlots

@@ -7,7 +7,7 @@ use lib.ListN.{length, drop, length-append}
 use lib.Seq.{sets}
 use Rattle.octets.specs.Wrote.{Wrote}
 use Rattle.octets.proofs.Writes.{sets-append}
-use Rattle.rows.specs.Lists.{told}
+use Rattle.rows.specs.Lists.{inTurn}
 
 -- of the bytes ws, to be written into d₀ from a₀ on, vs remain to be written into d from a on
 pub record Remains (d₀ : List ℕ) (a₀ : ℕ) (ws : List ℕ) (d : List ℕ) (a : ℕ) (vs : List ℕ) : Type 0 where
@@ -25,9 +25,9 @@ module _ {d₀ : List ℕ} {a₀ : ℕ} {ws : List ℕ} {d : List ℕ} {a : ℕ}
   less-remains us vs v w = record { next = omega (arith, w .next, v .next, length-append us vs); bytes = rw (w .bytes, w .next, sets-append) (v .bytes) }
 
 -- l is what is looped over, i the turn
-module _ {A : Type 0} (tell : ℕ → A → List ℕ) (l : List A) (i : ℕ) (d₀ : List ℕ) (a₀ : ℕ) (ws : List ℕ) (d : List ℕ) (a : ℕ) (inv : Remains d₀ a₀ ws d a (told tell i (drop i l))) where
-  pub told-ended : drop i l ≡ [] → Wrote d₀ a₀ ws d a
-  told-ended h = none-remains (rw h at inv)
+module _ {A : Type 0} (tell : ℕ → A → List ℕ) (l : List A) (i : ℕ) (d₀ : List ℕ) (a₀ : ℕ) (ws : List ℕ) (d : List ℕ) (a : ℕ) (inv : Remains d₀ a₀ ws d a (inTurn tell i (drop i l))) where
+  pub turns-ended : drop i l ≡ [] → Wrote d₀ a₀ ws d a
+  turns-ended h = none-remains (rw h at inv)
 
-  pub told-turn : (x : A) (e : List ℕ) (b : ℕ) → Wrote d a (tell i x) e b → drop i l ≡ x ∷ drop (i + 1) l → Remains d₀ a₀ ws e b (told tell (i + 1) (drop (i + 1) l))
-  told-turn x e b w h = less-remains (tell i x) (told tell (i + 1) (drop (i + 1) l)) (rw h at inv) w
+  pub turn-written : (x : A) (e : List ℕ) (b : ℕ) → Wrote d a (tell i x) e b → drop i l ≡ x ∷ drop (i + 1) l → Remains d₀ a₀ ws e b (inTurn tell (i + 1) (drop (i + 1) l))
+  turn-written x e b w h = less-remains (tell i x) (inTurn tell (i + 1) (drop (i + 1) l)) (rw h at inv) w

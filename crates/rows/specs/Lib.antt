@@ -5,4 +5,4 @@ pub mod Sound
 pub mod Supplements
 pub mod Places
 pub mod Index
-pub mod Reports
+pub mod RowReplies

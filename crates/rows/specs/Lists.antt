@@ -48,7 +48,7 @@ abbrev pub numbersFrom : {A : Type 0} → (A → Bool) → ℕ → List A → Li
 numbersFrom f i [] = []
 numbersFrom f i (x ∷ xs) = cond (f x) (i ∷ numbersFrom f (i + 1) xs) (numbersFrom f (i + 1) xs)
 
--- what is told of rows, one after the other, the first row having the place i; tell says what is told of one
-abbrev pub told : {A B : Type 0} → (ℕ → A → List B) → ℕ → List A → List B
-told tell i [] = []
-told tell i (x ∷ xs) = tell i x ++ told tell (i + 1) xs
+-- what f gives for each row, one after the other, the first row having the place i
+abbrev pub inTurn : {A B : Type 0} → (ℕ → A → List B) → ℕ → List A → List B
+inTurn f i [] = []
+inTurn f i (x ∷ xs) = f i x ++ inTurn f (i + 1) xs

@@ -30,7 +30,7 @@ use Rattle.rows.specs.Supplements.{isIdentityRight, isLoadRequestRight, isWellF
 use Rattle.decimal_writer.specs.Digits.{decDigits, decimalBytes}
 use Rattle.engine.specs.Requests.{areFieldsOf, recordIn, slotIn}
 use Rattle.engine.specs.Questions.{sessionPlace, storePlace, slotNamed, areCounts, isFilled, questions}
-use Rattle.engine.specs.Answers.{slotsOpened, slotsWithout, loadedCard, cardPlace, answerOf}
+use Rattle.engine.specs.Answers.{slotsPending, slotsWithout, loadedCard, cardPlace, answerOf}
 use Rattle.engine.specs.Words.{slotIs, registerIs, isAccepted, emptyRows}
 use Rattle.engine.specs.Answers as answers
 use Rattle.engine.specs.Words.{Lent, rowsAfter, itemAt}
@@ -53,15 +53,15 @@ both t [] hs f k = k
 both t (g ∷ gs) hs f k = (f .0, f .1, both (g .after) gs hs (f .2) k)
 
 first-centre : Follows (emptyRows 2 2) centreA
-unfolding crcBit crcEight crcByte hexDigit sumDigits endsInSum isAlphanumeric isMark areAll isIdentifier isUnpadded isNumber isLeap daysIn isDate isTime isDateAndTime timestampOf dateTimeOf isTimestamp isDateTime numberOf isOctets typed valuesOf valueAt nextAt contentBytes endsInReturn isWhole isChecked textOf headerOf payloadOf ending framed requestBytes answered headers commandOf replyBytes statusOf fieldsOf bodyOf field isRecord isAlgorithm table nameOf valueOf valueOr entryBytes fits isCard isMet isIncoming defaultCard storedValue storedCard inRow isEntryOf isStored identityInForm parsesPublicKey publicKeyInForm parsesResponse responseInForm keyInForm padded trimmed isVacant attributeOf isKeyOf isUnder isRegisterSound isSameKey freeRegister filledRegister withoutSlot isZeroSlot isNamed isFilledSlot isSlotSound isSameSlot freeSlot filledSlot resetSlot isOwned areSound isIdentityRight isLoadRequestRight isWellFormed decDigits decimalBytes areFieldsOf recordIn slotIn sessionPlace storePlace slotNamed areCounts isFilled questions slotsOpened slotsWithout loadedCard cardPlace answers.refused answers.answered answerOf slotIs registerIs isAccepted emptyRows
+unfolding crcBit crcEight crcByte hexDigit sumDigits endsInSum isAlphanumeric isMark areAll isIdentifier isUnpadded isNumber isLeap daysIn isDate isTime isDateAndTime timestampOf dateTimeOf isTimestamp isDateTime numberOf isOctets typed valuesOf valueAt nextAt contentBytes endsInReturn isWhole isChecked textOf headerOf payloadOf ending framed requestBytes answered headers commandOf replyBytes statusOf fieldsOf bodyOf field isRecord isAlgorithm table nameOf valueOf valueOr entryBytes fits isCard isMet isIncoming defaultCard storedValue storedCard inRow isEntryOf isStored identityInForm parsesPublicKey publicKeyInForm parsesResponse responseInForm keyInForm padded trimmed isVacant attributeOf isKeyOf isUnder isRegisterSound isSameKey freeRegister filledRegister withoutSlot isZeroSlot isNamed isFilledSlot isSlotSound isSameSlot freeSlot filledSlot resetSlot isOwned areSound isIdentityRight isLoadRequestRight isWellFormed decDigits decimalBytes areFieldsOf recordIn slotIn sessionPlace storePlace slotNamed areCounts isFilled questions slotsPending slotsWithout loadedCard cardPlace answers.refused answers.answered answerOf slotIs registerIs isAccepted emptyRows
 first-centre = (refl, refl, (refl, refl, (refl, refl, (refl, refl, (refl, refl, tt)))))
 
 second-centre : Follows (rowsLeft (emptyRows 2 2) centreA) centreB
-unfolding crcBit crcEight crcByte hexDigit sumDigits endsInSum isAlphanumeric isMark areAll isIdentifier isUnpadded isNumber isLeap daysIn isDate isTime isDateAndTime timestampOf dateTimeOf isTimestamp isDateTime numberOf isOctets typed valuesOf valueAt nextAt contentBytes endsInReturn isWhole isChecked textOf headerOf payloadOf ending framed requestBytes answered headers commandOf replyBytes statusOf fieldsOf bodyOf field isRecord isAlgorithm table nameOf valueOf valueOr entryBytes fits isCard isMet isIncoming defaultCard storedValue storedCard inRow isEntryOf isStored identityInForm parsesPublicKey publicKeyInForm parsesResponse responseInForm keyInForm padded trimmed isVacant attributeOf isKeyOf isUnder isRegisterSound isSameKey freeRegister filledRegister withoutSlot isZeroSlot isNamed isFilledSlot isSlotSound isSameSlot freeSlot filledSlot resetSlot isOwned areSound isIdentityRight isLoadRequestRight isWellFormed decDigits decimalBytes areFieldsOf recordIn slotIn sessionPlace storePlace slotNamed areCounts isFilled questions slotsOpened slotsWithout loadedCard cardPlace answers.refused answers.answered answerOf slotIs registerIs isAccepted emptyRows
+unfolding crcBit crcEight crcByte hexDigit sumDigits endsInSum isAlphanumeric isMark areAll isIdentifier isUnpadded isNumber isLeap daysIn isDate isTime isDateAndTime timestampOf dateTimeOf isTimestamp isDateTime numberOf isOctets typed valuesOf valueAt nextAt contentBytes endsInReturn isWhole isChecked textOf headerOf payloadOf ending framed requestBytes answered headers commandOf replyBytes statusOf fieldsOf bodyOf field isRecord isAlgorithm table nameOf valueOf valueOr entryBytes fits isCard isMet isIncoming defaultCard storedValue storedCard inRow isEntryOf isStored identityInForm parsesPublicKey publicKeyInForm parsesResponse responseInForm keyInForm padded trimmed isVacant attributeOf isKeyOf isUnder isRegisterSound isSameKey freeRegister filledRegister withoutSlot isZeroSlot isNamed isFilledSlot isSlotSound isSameSlot freeSlot filledSlot resetSlot isOwned areSound isIdentityRight isLoadRequestRight isWellFormed decDigits decimalBytes areFieldsOf recordIn slotIn sessionPlace storePlace slotNamed areCounts isFilled questions slotsPending slotsWithout loadedCard cardPlace answers.refused answers.answered answerOf slotIs registerIs isAccepted emptyRows
 second-centre = (refl, refl, (refl, refl, (refl, refl, tt)))
 
 ends : Follows (rowsLeft (rowsLeft (emptyRows 2 2) centreA) centreB) deletions
-unfolding crcBit crcEight crcByte hexDigit sumDigits endsInSum isAlphanumeric isMark areAll isIdentifier isUnpadded isNumber isLeap daysIn isDate isTime isDateAndTime timestampOf dateTimeOf isTimestamp isDateTime numberOf isOctets typed valuesOf valueAt nextAt contentBytes endsInReturn isWhole isChecked textOf headerOf payloadOf ending framed requestBytes answered headers commandOf replyBytes statusOf fieldsOf bodyOf field isRecord isAlgorithm table nameOf valueOf valueOr entryBytes fits isCard isMet isIncoming defaultCard storedValue storedCard inRow isEntryOf isStored identityInForm parsesPublicKey publicKeyInForm parsesResponse responseInForm keyInForm padded trimmed isVacant attributeOf isKeyOf isUnder isRegisterSound isSameKey freeRegister filledRegister withoutSlot isZeroSlot isNamed isFilledSlot isSlotSound isSameSlot freeSlot filledSlot resetSlot isOwned areSound isIdentityRight isLoadRequestRight isWellFormed decDigits decimalBytes areFieldsOf recordIn slotIn sessionPlace storePlace slotNamed areCounts isFilled questions slotsOpened slotsWithout loadedCard cardPlace answers.refused answers.answered answerOf slotIs registerIs isAccepted emptyRows
+unfolding crcBit crcEight crcByte hexDigit sumDigits endsInSum isAlphanumeric isMark areAll isIdentifier isUnpadded isNumber isLeap daysIn isDate isTime isDateAndTime timestampOf dateTimeOf isTimestamp isDateTime numberOf isOctets typed valuesOf valueAt nextAt contentBytes endsInReturn isWhole isChecked textOf headerOf payloadOf ending framed requestBytes answered headers commandOf replyBytes statusOf fieldsOf bodyOf field isRecord isAlgorithm table nameOf valueOf valueOr entryBytes fits isCard isMet isIncoming defaultCard storedValue storedCard inRow isEntryOf isStored identityInForm parsesPublicKey publicKeyInForm parsesResponse responseInForm keyInForm padded trimmed isVacant attributeOf isKeyOf isUnder isRegisterSound isSameKey freeRegister filledRegister withoutSlot isZeroSlot isNamed isFilledSlot isSlotSound isSameSlot freeSlot filledSlot resetSlot isOwned areSound isIdentityRight isLoadRequestRight isWellFormed decDigits decimalBytes areFieldsOf recordIn slotIn sessionPlace storePlace slotNamed areCounts isFilled questions slotsPending slotsWithout loadedCard cardPlace answers.refused answers.answered answerOf slotIs registerIs isAccepted emptyRows
 ends = (refl, refl, (refl, refl, (refl, refl, (refl, refl, tt))))
 
 pub follows : Follows (emptyRows 2 2) stages

@@ -14,7 +14,7 @@ use Rattle.rows.specs.declared.SlotState.{SlotState}
 use Rattle.rows.specs.declared.SlotState.the-variants.{Pending, Loading, Idle}
 use Rattle.rows.specs.declared.Supplement.{Supplement}
 use Rattle.history.specs.Model.{Item, kc, kr, kl, kf, kx, kd, rs, done, refused, loaded, _⇒_}
-use Rattle.engine.specs.Words.{Handed, Lent}
+use Rattle.engine.specs.Words.{Input, Lent}
 
 abbrev pub clock : List ℕ
 clock = text "20260101T000000Z"
@@ -34,59 +34,59 @@ supplement =
     }
 
 -- a request with that supplement; its buffer is full of the character 0, so that what lies beyond an answer says 00
-abbrev pub hand : List ℕ → Handed
+abbrev pub hand : List ℕ → Input
 hand request = record { request = request; supplement = supplement; buffer = replicate 1024 (code "0"); sequence = [] }
 
-abbrev pub startA : Handed
+abbrev pub startA : Input
 startA =
     hand (
     text "SM?KCPPK.ECDH.1|KMCID.1:SW1:A:20200101T000000Z:AAAAAAAAAAAAAAAA:9BE0|"
     ++ text "04|20300101T000000Z|||BE23~9E67\r")
 
-abbrev pub responseA : Handed
+abbrev pub responseA : Input
 responseA =
     hand (
     text "SM?KRPVKLOAD.RESP.1|KMCID.1:SW1:A:20200101T000000Z:AAAAAAAAAAAAAAAA:9BE0|"
     ++ text "SMID.1:Maker:M1:20200101T000000Z:0123456789ABCDEF:8637|20260101T000000Z|"
     ++ text "000000000000000000000000000000000000000000000000|C956~172D\r")
 
-abbrev pub loadA : Handed
+abbrev pub loadA : Input
 loadA =
     hand (
     text "SM?KLPA~PKEY.1|01|"
     ++ text "ACT20130716T151031Z;BDT20130716T151031Z;DKG04;KEN255;KRN6;KTC2;SGC0000758825;"
     ++ text "|02|0E6B~FAD1\r")
 
-abbrev pub finishA : Handed
+abbrev pub finishA : Input
 finishA = hand (text "SM?KFPA~05DC\r")
 
-abbrev pub startB : Handed
+abbrev pub startB : Input
 startB =
     hand (
     text "SM?KCPPK.ECDH.1|KMCID.1:SW1:B:20200101T000000Z:BBBBBBBBBBBBBBBB:507D|"
     ++ text "04|20300101T000000Z|||34EE~1B91\r")
 
-abbrev pub responseB : Handed
+abbrev pub responseB : Input
 responseB =
     hand (
     text "SM?KRPVKLOAD.RESP.1|KMCID.1:SW1:B:20200101T000000Z:BBBBBBBBBBBBBBBB:507D|"
     ++ text "SMID.1:Maker:M1:20200101T000000Z:0123456789ABCDEF:8637|20260101T000000Z|"
     ++ text "000000000000000000000000000000000000000000000000|11B8~B171\r")
 
-abbrev pub loadB : Handed
+abbrev pub loadB : Input
 loadB =
     hand (
     text "SM?KLPB~PKEY.1|01|"
     ++ text "ACT20130716T151031Z;BDT20130716T151031Z;DKG04;KEN255;KRN6;KTC2;SGC0000758825;"
     ++ text "|02|0E6B~E766\r")
 
-abbrev pub deleteA : Handed
+abbrev pub deleteA : Input
 deleteA = hand (text "SM?KXPA~2DDA\r")
 
-abbrev pub resetAll : Handed
+abbrev pub resetAll : Input
 resetAll = hand (text "GL?RSCEEF\r")
 
-abbrev pub clear : Handed
+abbrev pub clear : Input
 clear = hand (text "SM?KDN1~7B98\r")
 
 -- the KMCIDs
@@ -126,11 +126,11 @@ lent s t r = record { slots = s ∷ t ∷ []; registers = r ∷ freeRegister ∷
 
 -- a call, what it is read as, and the rows after it
 pub record Stage : Type 0 where
-  pub call : Handed
+  pub call : Input
   pub item : Item
   pub after : Lent
 
-abbrev pub stage : Handed → Item → Lent → Stage
+abbrev pub stage : Input → Item → Lent → Stage
 stage call item after = record { call = call; item = item; after = after }
 
 -- the slots and the registers of the run

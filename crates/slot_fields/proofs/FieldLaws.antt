@@ -12,15 +12,15 @@ use Rattle.octets.proofs.Writes.{then, none}
 use Rattle.fields.specs.Values.{string, octets, fieldBytes, payloadBytes}
 use Rattle.rows.specs.Lists.{trimmed}
 use Rattle.rows.specs.Slots.{hasState, kmcidOf}
-use Rattle.rows.specs.Reports.{stateText}
+use Rattle.rows.specs.RowReplies.{stateText}
 use Rattle.rows.specs.declared.SlotRow.{SlotRow}
 use Rattle.rows.specs.declared.SlotState.the-variants.{Pending, Loading}
 use Rattle.rows.proofs.ListLaws.{trimmed-short}
 
 -- put_kmcid: of a space of 40 bytes
 module _ (k s : List ℕ) (p : s ≡ trimmed k) (a : ℕ) where
-  pub kmcid-told : (d f : List ℕ) (b : ℕ) → Wrote d a (fieldBytes (string s)) f b → Wrote d a (fieldBytes (string (trimmed k))) f b
-  kmcid-told d f b w = rw (← p) w
+  pub kmcid-written : (d f : List ℕ) (b : ℕ) → Wrote d a (fieldBytes (string s)) f b → Wrote d a (fieldBytes (string (trimmed k))) f b
+  kmcid-written d f b w = rw (← p) w
 
   module _ (z : length k ≡ 40) where
     pub kmcid-room : (n : ℕ) → a + 42 ≤ n → a + length s + 2 ≤ n
@@ -31,18 +31,18 @@ module _ (k s : List ℕ) (p : s ≡ trimmed k) (a : ℕ) where
 
 -- put_state
 module _ (r : SlotRow) (p : Bool) (e : p ≡ hasState Pending r) (d f : List ℕ) (a b : ℕ) where
-  pub pending-told : p ≡ true → Wrote d a (fieldBytes (string (text "PENDING"))) f b → Wrote d a (fieldBytes (string (stateText r))) f b
+  pub pending-written : p ≡ true → Wrote d a (fieldBytes (string (text "PENDING"))) f b → Wrote d a (fieldBytes (string (stateText r))) f b
   unfolding stateText
-  pending-told o w = rw (← e, o) w
+  pending-written o w = rw (← e, o) w
 
   module _ (o : p ≡ false) (l : Bool) (q : l ≡ hasState Loading r) where
-    pub loading-told : l ≡ true → Wrote d a (fieldBytes (string (text "LOADING"))) f b → Wrote d a (fieldBytes (string (stateText r))) f b
+    pub loading-written : l ≡ true → Wrote d a (fieldBytes (string (text "LOADING"))) f b → Wrote d a (fieldBytes (string (stateText r))) f b
     unfolding stateText
-    loading-told h w = rw (← e, o, ← q, h) w
+    loading-written h w = rw (← e, o, ← q, h) w
 
-    pub active-told : l ≡ false → Wrote d a (fieldBytes (string (text "ACTIVE"))) f b → Wrote d a (fieldBytes (string (stateText r))) f b
+    pub active-written : l ≡ false → Wrote d a (fieldBytes (string (text "ACTIVE"))) f b → Wrote d a (fieldBytes (string (stateText r))) f b
     unfolding stateText
-    active-told h w = rw (← e, o, ← q, h) w
+    active-written h w = rw (← e, o, ← q, h) w
 
 -- put_key
 module _ (held : Bool) (t p d f g : List ℕ) (a b c : ℕ) where

@@ -9,7 +9,7 @@ ghost use lib.ListN.{length};
 ghost use Rattle.octets.specs.Wrote.{Writes};
 ghost use Rattle.fields.specs.Values.{string, octets, fieldBytes, payloadBytes};
 ghost use Rattle.rows.specs.Slots.{kmcidOf};
-ghost use Rattle.rows.specs.Reports.{stateText};
+ghost use Rattle.rows.specs.RowReplies.{stateText};
 
 // Writes the identifier of a slot, and answers the place after it.
 pub fn put_kmcid(dst: &mut [u8], at: usize, row: SlotRow) -> usize

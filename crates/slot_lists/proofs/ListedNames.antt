@@ -6,12 +6,12 @@ use Prim.Native.Nat.{ℕ, _+_}
 use Rattle.octets.specs.Wrote.{Wrote}
 use Rattle.octets.proofs.Writes.{then, none}
 use Rattle.fields.specs.Values.{string, fieldBytes, payloadBytes}
-use Rattle.rows.specs.Lists.{told}
+use Rattle.rows.specs.Lists.{inTurn}
 use Rattle.rows.specs.Slots.{hasState, kmcidOf}
-use Rattle.rows.specs.Reports.{slotNames, nameFields}
+use Rattle.rows.specs.RowReplies.{slotNames, nameFields}
 use Rattle.rows.specs.declared.SlotRow.{SlotRow}
 use Rattle.rows.specs.declared.SlotState.the-variants.{Free}
-use Rattle.rows.proofs.ReportLaws.{notFree}
+use Rattle.rows.proofs.RowReplyLaws.{notFree}
 
 -- put_name
 module _ (r : SlotRow) (t : Bool) (e : t ≡ hasState Free r) where
@@ -27,12 +27,12 @@ module _ (r : SlotRow) (t : Bool) (e : t ≡ hasState Free r) where
 abbrev pub oneName : ℕ → SlotRow → List ℕ
 oneName i r = payloadBytes (nameFields (slotNames (r ∷ [])))
 
-pub names-told : (i : ℕ) (rows : List SlotRow) → told oneName i rows ≡ payloadBytes (nameFields (slotNames rows))
+pub names-told : (i : ℕ) (rows : List SlotRow) → inTurn oneName i rows ≡ payloadBytes (nameFields (slotNames rows))
 unfolding slotNames
 names-told i [] = refl
 names-told i (x ∷ xs) = go (hasState Free x) (names-told (i + 1) xs)
   where
-    go : (t : Bool) → told oneName (i + 1) xs ≡ payloadBytes (nameFields (map kmcidOf (notFree xs)))
-        → payloadBytes (nameFields (map kmcidOf (cond (not t) (x ∷ []) []))) ++ told oneName (i + 1) xs ≡ payloadBytes (nameFields (map kmcidOf (cond (not t) (x ∷ notFree xs) (notFree xs))))
+    go : (t : Bool) → inTurn oneName (i + 1) xs ≡ payloadBytes (nameFields (map kmcidOf (notFree xs)))
+        → payloadBytes (nameFields (map kmcidOf (cond (not t) (x ∷ []) []))) ++ inTurn oneName (i + 1) xs ≡ payloadBytes (nameFields (map kmcidOf (cond (not t) (x ∷ notFree xs) (notFree xs))))
     go true q = q
     go false q = rw (append-assoc, q)

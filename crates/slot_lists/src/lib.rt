@@ -8,7 +8,7 @@ ghost use Rattle.octets.specs.Texts.{text};
 ghost use Rattle.octets.specs.Wrote.{Writes};
 ghost use Rattle.fields.specs.Values.{payloadBytes};
 ghost use Rattle.responses.specs.Responses.{responseBytes};
-ghost use Rattle.rows.specs.Reports.{slotNames, nameFields};
+ghost use Rattle.rows.specs.RowReplies.{slotNames, nameFields};
 
 // Writes the identifier of a slot, of a free one nothing, and answers the place after it.
 fn put_name(dst: &mut [u8], at: usize, row: SlotRow) -> usize

@@ -14,11 +14,11 @@ use Rattle.field_writer.proofs.WriteLaws.{payload-append}
 use Rattle.frames.specs.Frames.{ending, headBytes}
 use Rattle.responses.specs.Responses.{responseBytes}
 use Rattle.replies.proofs.ReplyLaws.{replied-fields}
-use Rattle.rows.specs.Lists.{numbersFrom, told}
-use Rattle.rows.specs.Reports.{slotFields, numberFields}
+use Rattle.rows.specs.Lists.{numbersFrom, inTurn}
+use Rattle.rows.specs.RowReplies.{slotFields, numberFields}
 use Rattle.rows.specs.declared.SlotRow.{SlotRow}
 use Rattle.rows.proofs.LoopLaws.{rows-cons}
-use Rattle.rows.proofs.WriteLoops.{Remains, told-turn}
+use Rattle.rows.proofs.WriteLoops.{Remains, turn-written}
 use Rattle.row_index.specs.Found.{isThe}
 
 -- put_register
@@ -34,19 +34,19 @@ module _ (s : ℕ) where
   abbrev pub oneNumber : ℕ → ℕ → List ℕ
   oneNumber i o = payloadBytes (numberFields (numbersFrom (isThe s) (i + 1) (o ∷ [])))
 
-  pub numbers-told : (i : ℕ) (owners : List ℕ) → told oneNumber i owners ≡ payloadBytes (numberFields (numbersFrom (isThe s) (i + 1) owners))
+  pub numbers-told : (i : ℕ) (owners : List ℕ) → inTurn oneNumber i owners ≡ payloadBytes (numberFields (numbersFrom (isThe s) (i + 1) owners))
   numbers-told i [] = refl
   numbers-told i (x ∷ xs) = go (isThe s x) (numbers-told (i + 1) xs)
     where
-      go : (t : Bool) → told oneNumber (i + 1) xs ≡ payloadBytes (numberFields (numbersFrom (isThe s) (i + 1 + 1) xs))
-          → payloadBytes (numberFields (cond t ((i + 1) ∷ []) [])) ++ told oneNumber (i + 1) xs ≡ payloadBytes (numberFields (cond t ((i + 1) ∷ numbersFrom (isThe s) (i + 1 + 1) xs) (numbersFrom (isThe s) (i + 1 + 1) xs)))
+      go : (t : Bool) → inTurn oneNumber (i + 1) xs ≡ payloadBytes (numberFields (numbersFrom (isThe s) (i + 1 + 1) xs))
+          → payloadBytes (numberFields (cond t ((i + 1) ∷ []) [])) ++ inTurn oneNumber (i + 1) xs ≡ payloadBytes (numberFields (cond t ((i + 1) ∷ numbersFrom (isThe s) (i + 1 + 1) xs) (numbersFrom (isThe s) (i + 1 + 1) xs)))
       go true q = rw (append-assoc, q)
       go false q = q
 
   -- the owner at i is told of
-  pub owner-told : {d₀ d e : List ℕ} {a₀ a b : ℕ} (ws owners : List ℕ) (m i : ℕ) → Wrote d a (oneNumber i (getD owners i 0)) e b → Remains d₀ a₀ ws d a (told oneNumber i (drop i (take m owners)))
-      → length owners ≡ 32 → m ≤ 32 → i < m → Remains d₀ a₀ ws e b (told oneNumber (i + 1) (drop (i + 1) (take m owners)))
-  owner-told ws owners m i w inv z r h = told-turn oneNumber (take m owners) i _ _ ws _ _ inv (getD owners i 0) _ _ w (rows-cons 0 owners m i 32 z r h)
+  pub owner-told : {d₀ d e : List ℕ} {a₀ a b : ℕ} (ws owners : List ℕ) (m i : ℕ) → Wrote d a (oneNumber i (getD owners i 0)) e b → Remains d₀ a₀ ws d a (inTurn oneNumber i (drop i (take m owners)))
+      → length owners ≡ 32 → m ≤ 32 → i < m → Remains d₀ a₀ ws e b (inTurn oneNumber (i + 1) (drop (i + 1) (take m owners)))
+  owner-told ws owners m i w inv z r h = turn-written oneNumber (take m owners) i _ _ ws _ _ inv (getD owners i 0) _ _ w (rows-cons 0 owners m i 32 z r h)
 
 -- reply_query: head, the slot's fields, the registers' numbers ns, ending
 pub query-replied : {d e f g k : List ℕ} {a b c x : ℕ} (h : List ℕ) (r : SlotRow) (ns : List ℕ) → Wrote d 0 (headBytes h (text "00")) e a → a ≡ length h + 2

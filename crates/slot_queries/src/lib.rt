@@ -9,7 +9,7 @@ ghost use Rattle.octets.specs.Wrote.{Writes};
 ghost use Rattle.fields.specs.Values.{payloadBytes};
 ghost use Rattle.responses.specs.Responses.{responseBytes};
 ghost use Rattle.rows.specs.Lists.{numbersFrom};
-ghost use Rattle.rows.specs.Reports.{slotFields, numberFields};
+ghost use Rattle.rows.specs.RowReplies.{slotFields, numberFields};
 ghost use Rattle.row_index.specs.Found.{isThe};
 
 // Writes a register's number where its owner is the slot, else nothing, and answers the place after it.

@@ -5,7 +5,7 @@ ghost use Prim.Native.Nat.{_+_, _≤_};
 ghost use lib.ListN.{length};
 ghost use Rattle.octets.specs.Wrote.{Writes};
 ghost use Rattle.fields.specs.Values.{payloadBytes};
-ghost use Rattle.rows.specs.Reports.{slotFields};
+ghost use Rattle.rows.specs.RowReplies.{slotFields};
 
 // Writes state and KMCID, the KEK's TVP and fingerprint, and those that a response is awaited for. Answers the
 // place after them.

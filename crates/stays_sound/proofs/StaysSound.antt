@@ -31,8 +31,8 @@ use Rattle.history.proofs.Sound.{sound-step, sound-empty}
 use Rattle.engine.specs.Refusals.{refusal}
 use Rattle.engine.specs.Requests.{commandIn, fieldsIn, recordIn, kmcIdentityIn, slotIn, cardIn, firstText}
 use Rattle.engine.specs.Questions.{Call, slotNamed, questions, firstNo}
-use Rattle.engine.specs.Answers.{Answer, slotsMoved, slotsOpened, slotsWithout, answered, listed, effect, refused, answerTo, answerOf}
-use Rattle.engine.specs.Words.{tablesOf, Handed, Lent, callOf, rowsAfter, itemAt, emptyRows}
+use Rattle.engine.specs.Answers.{Answer, slotsMoved, slotsPending, slotsWithout, answered, listed, effect, refused, answerTo, answerOf}
+use Rattle.engine.specs.Words.{tablesOf, Input, Lent, callOf, rowsAfter, itemAt, emptyRows}
 use Rattle.engine.specs.declared.Refusal.{Refusal}
 use Rattle.engine.specs.declared.Refusal.the-variants.{UnsoundRows}
 use Rattle.engine.specs.declared.Outcome.the-variants.{Refused}
@@ -63,7 +63,7 @@ module _ (x : Call) (vs : List Value) (s : SoundTables (x .slots) (x .registers)
   each-rs y = record { slots = every-map isSlotSound resetSlot reset-sound (x .slots) (s .each-slot); registers = s .each-register }
 
   each-kc : Yes x KC vs → EachSound (effect x KC vs (recordIn KC vs) (slotIn KC vs))
-  unfolding answered slotsOpened recordIn slotIn isWellFormed
+  unfolding answered slotsPending recordIn slotIn isWellFormed
   each-kc y =
       let q = kmcIdentityIn (firstText vs) in
       let i = key-identity (firstText vs) (and-first (publicKeyInForm (firstText vs)) _ (y .form)) in
@@ -151,7 +151,7 @@ empty-sound a b = sound-to (replicate a freeSlot) (replicate b freeRegister) (re
 })
 
 -- the rows are sound after every list of calls
-pub never-unsound : (a b : ℕ) (calls : List Handed) → AreSound (finally rowsAfter itemAt (emptyRows a b) calls)
+pub never-unsound : (a b : ℕ) (calls : List Input) → AreSound (finally rowsAfter itemAt (emptyRows a b) calls)
 never-unsound a b calls = inv-finally rowsAfter itemAt AreSound (λ t e h. stays-sound (callOf t e) h) (emptyRows a b) calls (empty-sound a b)
 
 -- refusal 3 is answered only where the rows that are handed in are not sound,
@@ -163,5 +163,5 @@ unfolding questions
 refused-unsound x e h = let w = held-not isThree (questions x) UnsoundRows (rw h refl) (refused-by x UnsoundRows e) in nope (cc)
 
 -- so no call e, after any calls before it, is answered by it
-pub never-refused : (a b : ℕ) (before : List Handed) (e : Handed) → answerOf (callOf (finally rowsAfter itemAt (emptyRows a b) before) e) .outcome ≢ Refused UnsoundRows
+pub never-refused : (a b : ℕ) (before : List Input) (e : Input) → answerOf (callOf (finally rowsAfter itemAt (emptyRows a b) before) e) .outcome ≢ Refused UnsoundRows
 never-refused a b before e r = refused-unsound (callOf (finally rowsAfter itemAt (emptyRows a b) before) e) r (never-unsound a b before)

@@ -3,15 +3,15 @@ use mathlib.Core.Path.{_≡_, refl}
 use Prim.Native.Nat.{_+_, _*_, _-_, _≤_}
 use borrow.Author.Needs.{needs}
 use lib.ListN.{length, drop}
-use Rattle.rows.specs.Lists.{told}
+use Rattle.rows.specs.Lists.{inTurn}
 use Rattle.rows.proofs.LoopLaws.{list-cons, places-end}
-use Rattle.rows.proofs.WriteLoops.{Remains, told-turn, told-ended}
+use Rattle.rows.proofs.WriteLoops.{Remains, turn-written, turns-ended}
 use Rattle.console_row_lines.specs.OneRow.{registerLine}
 use Rattle.console_rows.proofs.put_registers.Statement.{statement}
 use Rattle.console_rows.proofs.put_registers.Tie as tie
 
 abbrev Inv-loop : tie.InvT-loop
-Inv-loop dst₀ at registers end₀ i₀ dst end i = (length registers ≡ 32) × (i ≤ 32) × (length dst ≡ length dst₀) × (end ≤ at + 533 * i) × Remains dst₀ at (told registerLine 0 registers) dst end (told registerLine i (drop i registers))
+Inv-loop dst₀ at registers end₀ i₀ dst end i = (length registers ≡ 32) × (i ≤ 32) × (length dst ≡ length dst₀) × (end ≤ at + 533 * i) × Remains dst₀ at (inTurn registerLine 0 registers) dst end (inTurn registerLine i (drop i registers))
 
 abbrev μ-loop : tie.MeasureT-loop
 μ-loop dst₀ at registers end₀ i₀ dst end i = 32 - i
@@ -28,6 +28,6 @@ put-registers-spec =
     (λ c κs. (search needs, search needs))
     (λ c. search needs)
     (λ c. search needs)
-    (λ c. (search needs, search needs, search needs, search needs, search (told-turn, list-cons, needs)))
+    (λ c. (search needs, search needs, search needs, search needs, search (turn-written, list-cons, needs)))
     (λ c. search needs)
-    (λ c. (search (told-ended, places-end), search needs)))
+    (λ c. (search (turns-ended, places-end), search needs)))

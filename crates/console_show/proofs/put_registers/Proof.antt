@@ -3,16 +3,16 @@ use mathlib.Core.Path.{_≡_, refl}
 use Prim.Native.Nat.{_+_, _*_, _-_, _≤_}
 use borrow.Author.Needs.{needs}
 use lib.ListN.{length, drop}
-use Rattle.rows.specs.Lists.{told}
+use Rattle.rows.specs.Lists.{inTurn}
 use Rattle.rows.proofs.LoopLaws.{list-cons, places-end}
-use Rattle.rows.proofs.WriteLoops.{Remains, told-ended}
+use Rattle.rows.proofs.WriteLoops.{Remains, turns-ended}
 use Rattle.console_show.specs.Shown.{registerIn}
 use Rattle.console_show.proofs.ShowsLaws.{register-turn}
 use Rattle.console_show.proofs.put_registers.Statement.{statement}
 use Rattle.console_show.proofs.put_registers.Tie as tie
 
 abbrev Inv-loop : tie.InvT-loop
-Inv-loop dst₀ at t registers end₀ i₀ dst end i = (length registers ≡ 32) × (i ≤ 32) × (length dst ≡ length dst₀) × (end ≤ at + 290 * i) × Remains dst₀ at (told (registerIn t) 0 registers) dst end (told (registerIn t) i (drop i registers))
+Inv-loop dst₀ at t registers end₀ i₀ dst end i = (length registers ≡ 32) × (i ≤ 32) × (length dst ≡ length dst₀) × (end ≤ at + 290 * i) × Remains dst₀ at (inTurn (registerIn t) 0 registers) dst end (inTurn (registerIn t) i (drop i registers))
 
 abbrev μ-loop : tie.MeasureT-loop
 μ-loop dst₀ at t registers end₀ i₀ dst end i = 32 - i
@@ -33,4 +33,4 @@ put-registers-spec =
     (λ c. search needs)
     (λ c. (search needs, search needs, search needs, search needs, search (register-turn, list-cons, needs)))
     (λ c. search needs)
-    (λ c. (search (told-ended, places-end), search needs)))
+    (λ c. (search (turns-ended, places-end), search needs)))

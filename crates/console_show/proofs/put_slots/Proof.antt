@@ -3,15 +3,15 @@ use mathlib.Core.Path.{_≡_, refl}
 use Prim.Native.Nat.{_+_, _*_, _-_, _≤_}
 use borrow.Author.Needs.{needs}
 use lib.ListN.{length, drop}
-use Rattle.rows.specs.Lists.{told}
+use Rattle.rows.specs.Lists.{inTurn}
 use Rattle.rows.proofs.LoopLaws.{list-cons, places-end}
-use Rattle.rows.proofs.WriteLoops.{Remains, told-turn, told-ended}
+use Rattle.rows.proofs.WriteLoops.{Remains, turn-written, turns-ended}
 use Rattle.console_shown_rows.specs.OneRow.{slotShown}
 use Rattle.console_show.proofs.put_slots.Statement.{statement}
 use Rattle.console_show.proofs.put_slots.Tie as tie
 
 abbrev Inv-loop : tie.InvT-loop
-Inv-loop dst₀ at slots end₀ i₀ dst end i = (length slots ≡ 8) × (i ≤ 8) × (length dst ≡ length dst₀) × (end ≤ at + 105 * i) × Remains dst₀ at (told slotShown 0 slots) dst end (told slotShown i (drop i slots))
+Inv-loop dst₀ at slots end₀ i₀ dst end i = (length slots ≡ 8) × (i ≤ 8) × (length dst ≡ length dst₀) × (end ≤ at + 105 * i) × Remains dst₀ at (inTurn slotShown 0 slots) dst end (inTurn slotShown i (drop i slots))
 
 abbrev μ-loop : tie.MeasureT-loop
 μ-loop dst₀ at slots end₀ i₀ dst end i = 8 - i
@@ -28,6 +28,6 @@ put-slots-spec =
     (λ c κs. (search needs, search needs))
     (λ c. search needs)
     (λ c. search needs)
-    (λ c. (search needs, search needs, search needs, search needs, search (told-turn, list-cons, needs)))
+    (λ c. (search needs, search needs, search needs, search needs, search (turn-written, list-cons, needs)))
     (λ c. search needs)
-    (λ c. (search (told-ended, places-end), search needs)))
+    (λ c. (search (turns-ended, places-end), search needs)))

@@ -4,16 +4,16 @@ use mathlib.Core.List.{map}
 use Prim.Native.Nat.{_+_, _-_, _≤_}
 use borrow.Author.Needs.{needs}
 use lib.ListN.{length, drop}
-use Rattle.rows.specs.Lists.{told}
+use Rattle.rows.specs.Lists.{inTurn}
 use Rattle.rows.proofs.LoopLaws.{list-cons, list-end}
-use Rattle.rows.proofs.WriteLoops.{Remains, all-remains, told-turn, told-ended}
+use Rattle.rows.proofs.WriteLoops.{Remains, all-remains, turn-written, turns-ended}
 use Rattle.console_text.specs.Texts.{legible}
 use Rattle.console_text.proofs.TextLaws.{oneByte, text-told}
 use Rattle.console_text.proofs.put_text.Statement.{statement}
 use Rattle.console_text.proofs.put_text.Tie as tie
 
 abbrev Inv-loop : tie.InvT-loop
-Inv-loop dst₀ at s end₀ i₀ dst end i = (i ≤ length s) × (length dst ≡ length dst₀) × (end ≡ at + i) × Remains dst₀ at (map legible s) dst end (told oneByte i (drop i s))
+Inv-loop dst₀ at s end₀ i₀ dst end i = (i ≤ length s) × (length dst ≡ length dst₀) × (end ≡ at + i) × Remains dst₀ at (map legible s) dst end (inTurn oneByte i (drop i s))
 
 abbrev μ-loop : tie.MeasureT-loop
 μ-loop dst₀ at s end₀ i₀ dst end i = length s - i
@@ -29,6 +29,6 @@ put-text-spec =
     (λ c κs. search needs)
     (λ c. search needs)
     (λ c. search needs)
-    (λ c. (search needs, search needs, search needs, search (told-turn, list-cons)))
+    (λ c. (search needs, search needs, search needs, search (turn-written, list-cons)))
     (λ c. search needs)
-    (λ c. (search (told-ended, list-end), search needs)))
+    (λ c. (search (turns-ended, list-end), search needs)))

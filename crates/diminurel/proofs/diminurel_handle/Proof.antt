@@ -142,24 +142,24 @@ module _ {M : Type 1} (𝓤 : URA M) (H : Heap 𝓤) (A : Atoms 𝓤) (mem : Mem
       abbrev t : RegisterTable
       t = registerTable yR
 
-      abbrev told : Answer
-      told = answerOf (callIn (joined s t) c (xQ .now) (length yO))
+      abbrev theAnswer : Answer
+      theAnswer = answerOf (callIn (joined s t) c (xQ .now) (length yO))
 
       -- what `answer` ensures of its result r and of the response w
       abbrev Number : Answered → Type 0
-      Number r = r .reply .outcome ≡ outcomeNumber (told .outcome)
+      Number r = r .reply .outcome ≡ outcomeNumber (theAnswer .outcome)
 
       abbrev State : Answered → Type 0
-      State r = r .reply .state ≡ stateByte (told .outcome)
+      State r = r .reply .state ≡ stateByte (theAnswer .outcome)
 
       abbrev Written : Answered → List ℕ → Type 0
-      Written r w = Responded (joined s t) told yO (r .reply .length) w
+      Written r w = Responded (joined s t) theAnswer yO (r .reply .length) w
 
       abbrev Slots : Answered → Type 0
-      Slots r = r .slots ≡ slotsIn (tablesAfter (joined s t) told)
+      Slots r = r .slots ≡ slotsIn (tablesAfter (joined s t) theAnswer)
 
       abbrev Registers : Answered → Type 0
-      Registers r = r .registers ≡ registersIn (tablesAfter (joined s t) told)
+      Registers r = r .registers ≡ registersIn (tablesAfter (joined s t) theAnswer)
 
       abbrev Fits : Answered → Type 0
       Fits r = r .reply .length ≤ length yO

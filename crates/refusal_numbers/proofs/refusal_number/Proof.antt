@@ -1,5 +1,5 @@
 -- `refusal_numbers::refusal_number` meets its contract: the number of its entry.
-use Rattle.refusal_numbers.proofs.NumberLaws.{number-told}
+use Rattle.refusal_numbers.proofs.NumberLaws.{number-is}
 use borrow.Author.Needs.{needs}
 use Rattle.refusal_numbers.proofs.refusal_number.Statement.{statement}
 use Rattle.refusal_numbers.proofs.refusal_number.Tie as tie
@@ -9,4 +9,4 @@ refusal-number-spec =
     tie.close
     (tie.spec
     (λ c κs. search needs)
-    (λ c. search number-told))
+    (λ c. search number-is))

@@ -1,5 +1,5 @@
 -- `refusals::refuse` meets its contract: silence, GL!ER, or the header of the request, by the number of the refusal.
-use Rattle.refusals.proofs.TellingLaws.{silently, general-fits, generally, own-long, own-fits, own-told}
+use Rattle.refusals.proofs.RefusalLaws.{silently, general-fits, generally, own-long, own-fits, own-replied}
 use borrow.Author.Needs.{needs}
 use Rattle.refusals.proofs.refuse.Statement.{statement}
 use Rattle.refusals.proofs.refuse.Tie as tie
@@ -17,4 +17,4 @@ refuse-spec =
     (λ c κs. search needs)
     (λ c κs. (search own-long, search own-fits))
     (λ c. search needs)
-    (λ c. (search own-told, search needs)))
+    (λ c. (search own-replied, search needs)))

@@ -9,7 +9,7 @@ use Rattle.rows.specs.Lists.{everyRow}
 use Rattle.rows.specs.Index.{keyNumber}
 use Rattle.row_index.specs.Found.{ownerNumber}
 use Rattle.row_index.specs.Lent.{rowWith}
-use Rattle.row_index.proofs.LentLoops.{lent-ended, lent-not, lent-turn, told-turn, told-ended, untold, every-row}
+use Rattle.row_index.proofs.LentLoops.{lent-ended, lent-not, lent-turn, turn-written, turns-ended, untold, every-row}
 use Rattle.register_keys.specs.Judged.{isSoundUnder}
 use Rattle.register_keys.proofs.KeyLaws.{judged-number}
 use borrow.Author.Needs.{needs}
@@ -27,15 +27,15 @@ loop-again c =
     let j = c .before .before in
     let l = j .before .before .before .loop .inv in
     let h = j .before .before .loop-test .taken in
-    let k = told-turn keyNumber rowWith _ _ _ _ (l .5) h (omega (arith, l .0, l .1, h)) _ (judged-number _ _ _ (j .judge-register .ensures .1 .0) (c .if1 .left)) in
-    let o = told-turn (ownerNumber _) rowWith _ _ _ _ (l .6) h (omega (arith, l .0, l .2, h)) _ (judged-number _ _ _ (j .judge-register .ensures .1 .1) (c .if1 .left)) in
+    let k = turn-written keyNumber rowWith _ _ _ _ (l .5) h (omega (arith, l .0, l .1, h)) _ (judged-number _ _ _ (j .judge-register .ensures .1 .0) (c .if1 .left)) in
+    let o = turn-written (ownerNumber _) rowWith _ _ _ _ (l .6) h (omega (arith, l .0, l .2, h)) _ (judged-number _ _ _ (j .judge-register .ensures .1 .1) (c .if1 .left)) in
     (search needs, search needs, search needs, search needs, search lent-turn, k, o)
 
 returns-2 : tie.Need-returns-2 Inv-loop μ-loop
 returns-2 c =
     let l = c .before .loop .inv in
     let h = c .loop-test .left in
-    (search lent-ended, (search needs, ((λ z. told-ended keyNumber rowWith [] _ _ _ (l .5) h (l .3)), (λ z. told-ended (ownerNumber _) rowWith [] _ _ _ (l .6) h (l .3)))))
+    (search lent-ended, (search needs, ((λ z. turns-ended keyNumber rowWith [] _ _ _ (l .5) h (l .3)), (λ z. turns-ended (ownerNumber _) rowWith [] _ _ _ (l .6) h (l .3)))))
 
 pub judge-registers-spec : {M : Type 1} → statement M
 judge-registers-spec =

@@ -1,5 +1,5 @@
 -- `slot_fields::put_kmcid` meets its contract: what stands before the first zero fits 40 bytes.
-use Rattle.slot_fields.proofs.FieldLaws.{kmcid-told, kmcid-room, kmcid-end}
+use Rattle.slot_fields.proofs.FieldLaws.{kmcid-written, kmcid-room, kmcid-end}
 use borrow.Author.Needs.{needs}
 use Rattle.slot_fields.proofs.put_kmcid.Statement.{statement}
 use Rattle.slot_fields.proofs.put_kmcid.Tie as tie
@@ -12,4 +12,4 @@ put-kmcid-spec =
     (λ c κs. search needs)
     (λ c κs. search (kmcid-room, needs))
     (λ c. search needs)
-    (λ c. (search kmcid-told, search (kmcid-end, needs))))
+    (λ c. (search kmcid-written, search (kmcid-end, needs))))

@@ -1,5 +1,5 @@
 -- `slot_fields::put_state` meets its contract, a law a return.
-use Rattle.slot_fields.proofs.FieldLaws.{pending-told, loading-told, active-told}
+use Rattle.slot_fields.proofs.FieldLaws.{pending-written, loading-written, active-written}
 use borrow.Author.Needs.{needs}
 use Rattle.slot_fields.proofs.put_state.Statement.{statement}
 use Rattle.slot_fields.proofs.put_state.Tie as tie
@@ -12,13 +12,13 @@ put-state-spec =
     (λ c. search needs)
     (λ c κs. search needs)
     (λ c. search needs)
-    (λ c. (search pending-told, search needs))
+    (λ c. (search pending-written, search needs))
     (λ c κs. search needs)
     (λ c. search needs)
     (λ c κs. search needs)
     (λ c. search needs)
-    (λ c. (search loading-told, search needs))
+    (λ c. (search loading-written, search needs))
     (λ c. search needs)
     (λ c κs. search needs)
     (λ c. search needs)
-    (λ c. (search active-told, search needs)))
+    (λ c. (search active-written, search needs)))

@@ -4,16 +4,16 @@ use Prim.Native.Nat.{_+_, _*_, _-_, _≤_}
 use borrow.Author.Needs.{needs}
 use lib.ListN.{length, drop, take}
 use Rattle.fields.specs.Values.{payloadBytes}
-use Rattle.rows.specs.Lists.{told}
-use Rattle.rows.specs.Reports.{slotNames, nameFields}
+use Rattle.rows.specs.Lists.{inTurn}
+use Rattle.rows.specs.RowReplies.{slotNames, nameFields}
 use Rattle.rows.proofs.LoopLaws.{rows-cons, rows-end}
-use Rattle.rows.proofs.WriteLoops.{Remains, all-remains, told-turn, told-ended}
+use Rattle.rows.proofs.WriteLoops.{Remains, all-remains, turn-written, turns-ended}
 use Rattle.slot_lists.proofs.ListedNames.{oneName, names-told}
 use Rattle.slot_lists.proofs.put_names.Statement.{statement}
 use Rattle.slot_lists.proofs.put_names.Tie as tie
 
 abbrev Inv-loop : tie.InvT-loop
-Inv-loop dst₀ at n slots end₀ i₀ dst end i = (length slots ≡ 8) × (n ≤ 8) × (i ≤ n) × (length dst ≡ length dst₀) × (end ≤ at + 42 * i) × Remains dst₀ at (payloadBytes (nameFields (slotNames (take n slots)))) dst end (told oneName i (drop i (take n slots)))
+Inv-loop dst₀ at n slots end₀ i₀ dst end i = (length slots ≡ 8) × (n ≤ 8) × (i ≤ n) × (length dst ≡ length dst₀) × (end ≤ at + 42 * i) × Remains dst₀ at (payloadBytes (nameFields (slotNames (take n slots)))) dst end (inTurn oneName i (drop i (take n slots)))
 
 abbrev μ-loop : tie.MeasureT-loop
 μ-loop dst₀ at n slots end₀ i₀ dst end i = n - i
@@ -30,6 +30,6 @@ put-names-spec =
     (λ c κs. search needs)
     (λ c. search needs)
     (λ c. search needs)
-    (λ c. (search needs, search needs, search needs, search needs, search needs, search (told-turn, rows-cons)))
+    (λ c. (search needs, search needs, search needs, search needs, search needs, search (turn-written, rows-cons)))
     (λ c. search needs)
-    (λ c. (search (told-ended, rows-end), search needs)))
+    (λ c. (search (turns-ended, rows-end), search needs)))

@@ -4,17 +4,17 @@ use Prim.Native.Nat.{_+_, _*_, _-_, _≤_}
 use borrow.Author.Needs.{needs}
 use lib.ListN.{length, drop, take}
 use Rattle.fields.specs.Values.{payloadBytes}
-use Rattle.rows.specs.Lists.{numbersFrom, told}
-use Rattle.rows.specs.Reports.{numberFields}
+use Rattle.rows.specs.Lists.{numbersFrom, inTurn}
+use Rattle.rows.specs.RowReplies.{numberFields}
 use Rattle.rows.proofs.LoopLaws.{rows-end}
-use Rattle.rows.proofs.WriteLoops.{Remains, all-remains, told-ended}
+use Rattle.rows.proofs.WriteLoops.{Remains, all-remains, turns-ended}
 use Rattle.row_index.specs.Found.{isThe}
 use Rattle.slot_queries.proofs.QueryLaws.{oneNumber, numbers-told, owner-told}
 use Rattle.slot_queries.proofs.put_registers.Statement.{statement}
 use Rattle.slot_queries.proofs.put_registers.Tie as tie
 
 abbrev Inv-loop : tie.InvT-loop
-Inv-loop dst₀ at m slot owners end₀ i₀ dst end i = (length owners ≡ 32) × (m ≤ 32) × (i ≤ m) × (length dst ≡ length dst₀) × (end ≤ at + 12 * i) × Remains dst₀ at (payloadBytes (numberFields (numbersFrom (isThe slot) 1 (take m owners)))) dst end (told (oneNumber slot) i (drop i (take m owners)))
+Inv-loop dst₀ at m slot owners end₀ i₀ dst end i = (length owners ≡ 32) × (m ≤ 32) × (i ≤ m) × (length dst ≡ length dst₀) × (end ≤ at + 12 * i) × Remains dst₀ at (payloadBytes (numberFields (numbersFrom (isThe slot) 1 (take m owners)))) dst end (inTurn (oneNumber slot) i (drop i (take m owners)))
 
 abbrev μ-loop : tie.MeasureT-loop
 μ-loop dst₀ at m slot owners end₀ i₀ dst end i = m - i
@@ -39,4 +39,4 @@ put-registers-spec =
     let inv = test .before .loop .inv in
     (search needs, search needs, search needs, search needs, search needs, owner-told _ _ _ _ _ (wrote .0) (inv .5) (inv .0) (inv .1) (test .loop-test .taken)))
     (λ c. search needs)
-    (λ c. (search (told-ended, rows-end), search needs)))
+    (λ c. (search (turns-ended, rows-end), search needs)))

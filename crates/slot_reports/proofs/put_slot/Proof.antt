@@ -1,5 +1,5 @@
 -- `slot_reports::put_slot` meets its contract: six fields in four writes.
-use Rattle.slot_reports.proofs.ReportLaws.{sixteen, slot-told}
+use Rattle.slot_reports.proofs.RowReplyLaws.{sixteen, slot-told}
 use borrow.Author.Needs.{needs}
 use Rattle.slot_reports.proofs.put_slot.Statement.{statement}
 use Rattle.slot_reports.proofs.put_slot.Tie as tie

@@ -1,11 +1,11 @@
--- `refusals::tell` meets its contract: a response for each way of telling.
-use Rattle.refusals.proofs.TellingLaws.{told-so}
+-- `refusals::write_refusal` meets its contract: a response for each way of telling.
+use Rattle.refusals.proofs.RefusalLaws.{replied-so}
 use borrow.Author.Needs.{needs}
-use Rattle.refusals.proofs.tell.Statement.{statement}
-use Rattle.refusals.proofs.tell.Tie as tie
+use Rattle.refusals.proofs.write_refusal.Statement.{statement}
+use Rattle.refusals.proofs.write_refusal.Tie as tie
 
-pub tell-spec : {M : Type 1} → statement M
-tell-spec =
+pub write-refusal-spec : {M : Type 1} → statement M
+write-refusal-spec =
     tie.close
     (tie.spec
     (λ c. search needs)
@@ -25,10 +25,10 @@ tell-spec =
     (λ c. search needs)
     (λ c κs. search needs)
     (λ c. search needs)
-    (λ c. (search (told-so, needs), search needs))
+    (λ c. (search (replied-so, needs), search needs))
     (λ c. search needs)
-    (λ c. (search (told-so, needs), search needs))
+    (λ c. (search (replied-so, needs), search needs))
     (λ c. search needs)
-    (λ c. (search (told-so, needs), search needs))
+    (λ c. (search (replied-so, needs), search needs))
     (λ c. search needs)
-    (λ c. (search (told-so, needs), search needs)))
+    (λ c. (search (replied-so, needs), search needs)))

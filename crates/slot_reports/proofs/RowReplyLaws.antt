@@ -9,7 +9,7 @@ use Rattle.octets.specs.Wrote.{Wrote}
 use Rattle.octets.proofs.Writes.{then}
 use Rattle.fields.specs.Values.{string, octets, fieldBytes, payloadBytes}
 use Rattle.rows.specs.Slots.{hasState, kmcidOf}
-use Rattle.rows.specs.Reports.{stateText, slotFields}
+use Rattle.rows.specs.RowReplies.{stateText, slotFields}
 use Rattle.rows.specs.declared.SlotRow.{SlotRow}
 use Rattle.rows.specs.declared.SlotState.the-variants.{Pending}
 use Rattle.field_writer.proofs.WriteLaws.{payload-append}

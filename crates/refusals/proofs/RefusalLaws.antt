@@ -15,17 +15,17 @@ use Rattle.replies.proofs.ReplyLaws.{header-five}
 use Rattle.engine.specs.Refusals.{Header, general, own, refusal}
 use Rattle.engine.specs.Answers.{errorHeader, responseOf, refusalReply}
 use Rattle.engine.specs.declared.Refusal.{Refusal}
-use Rattle.refusal_numbers.specs.Tellings.{statusIn, fieldsIn, refusalIn}
+use Rattle.refusal_numbers.specs.RefusalForms.{statusIn, fieldsIn, refusalIn}
 use Rattle.refusal_numbers.specs.declared.Entry.{Entry}
-use Rattle.refusal_numbers.specs.declared.Telling.{Telling}
-use Rattle.refusals.specs.Tellings.{CanTell}
+use Rattle.refusal_numbers.specs.declared.ReplyForm.{ReplyForm}
+use Rattle.refusals.specs.RefusalForms.{CanRefuse}
 
--- tell: the response with status and text of what is told
-pub told-so : {d f : List ℕ} {z : ℕ} (h s : List ℕ) (t x : Telling) (n : ℕ) (v : List Value) → t ≡ x → statusIn x ≡ s → v ≡ fieldsIn x n → Wrote d 0 (responseBytes h s v) f z → Wrote d 0 (responseBytes h (statusIn t) (fieldsIn t n)) f z
-told-so h s t x n v p q o w = rw (p, q, ← o) w
+-- write_refusal: the response with status and text of what is told
+pub replied-so : {d f : List ℕ} {z : ℕ} (h s : List ℕ) (t x : ReplyForm) (n : ℕ) (v : List Value) → t ≡ x → statusIn x ≡ s → v ≡ fieldsIn x n → Wrote d 0 (responseBytes h s v) f z → Wrote d 0 (responseBytes h (statusIn t) (fieldsIn t n)) f z
+replied-so h s t x n v p q o w = rw (p, q, ← o) w
 
 -- a request that is long enough can be told any refusal
-pub can-tell : (h : Option Header) (n m : ℕ) → 10 ≤ n → 1024 ≤ m → CanTell h n m
+pub can-tell : (h : Option Header) (n m : ℕ) → 10 ≤ n → 1024 ≤ m → CanRefuse h n m
 can-tell none n m i j = tt
 can-tell (some general) n m i j = omega arith
 can-tell (some own) n m i j = (omega arith, omega arith)
@@ -39,7 +39,7 @@ module _ (e : Entry) (r : Refusal) (p : refusalIn e ≡ refusal r) where
     under-general : refusal r .header ≡ some general
     under-general = rw (← p, lt-leb (e .0) 4 i, le-leb (e .0) 7 j)
 
-    pub general-fits : (n m : ℕ) → CanTell (refusal r .header) n m → 21 ≤ m
+    pub general-fits : (n m : ℕ) → CanRefuse (refusal r .header) n m → 21 ≤ m
     general-fits n m c = omega (arith, rw under-general at c)
 
     pub generally : {d f : List ℕ} {z : ℕ} (q : List ℕ) → Wrote d 0 (responseBytes errorHeader (statusIn (e .1)) (fieldsIn (e .1) (e .0))) f z
@@ -52,13 +52,13 @@ module _ (e : Entry) (r : Refusal) (p : refusalIn e ≡ refusal r) where
     under-own = rw (← p, lt-leb (e .0) 4 (omega arith), lt-leb (e .0) 7 i)
 
     module _ (h q : List ℕ) (o : h ≡ headerOf q) where
-      module _ (m : ℕ) (c : CanTell (refusal r .header) (length q) m) where
+      module _ (m : ℕ) (c : CanRefuse (refusal r .header) (length q) m) where
         pub own-long : 3 ≤ length h
         own-long = let k = rw under-own at c in rw o (omega (arith, header-five q (omega (arith, k .0))))
 
         pub own-fits : length h + 16 ≤ m
         own-fits = let k = rw under-own at c in rw o (omega (arith, header-five q (omega (arith, k .0)), k .1))
 
-      pub own-told : {d f : List ℕ} {z : ℕ} → Wrote d 0 (responseBytes h (statusIn (e .1)) (fieldsIn (e .1) (e .0))) f z
+      pub own-replied : {d f : List ℕ} {z : ℕ} → Wrote d 0 (responseBytes h (statusIn (e .1)) (fieldsIn (e .1) (e .0))) f z
           → Wrote d 0 (responseOf (refusalReply q r)) f z
-      own-told w = rw (under-own, ← p, ← o) w
+      own-replied w = rw (under-own, ← p, ← o) w

@@ -4,7 +4,7 @@ use mathlib.Core.Option.{Option, none, some}
 use Rattle.engine.specs.Refusals.{Header, general, own}
 
 -- a refused request of n bytes can be answered in room bytes
-abbrev pub CanTell : Option Header → ℕ → ℕ → Type 0
-CanTell none n room = Unit
-CanTell (some general) n room = 1024 ≤ room
-CanTell (some own) n room = (10 ≤ n) × (1024 ≤ room)
+abbrev pub CanRefuse : Option Header → ℕ → ℕ → Type 0
+CanRefuse none n room = Unit
+CanRefuse (some general) n room = 1024 ≤ room
+CanRefuse (some own) n room = (10 ≤ n) × (1024 ≤ room)

@@ -23,7 +23,7 @@ use Rattle.card_laws.proofs.StoredText.{stored-text}
 use Rattle.rows.specs.Lists.{everyRow, trimmed, rowsThat, numbersFrom}
 use Rattle.rows.specs.Slots.{isZeroSlot, hasState, kmcidOf, isFilledSlot, isSlotSound}
 use Rattle.rows.specs.Registers.{isVacant, isUnder, isRegisterSound}
-use Rattle.rows.specs.Reports.{storedIn, slotNames, nameFields, stateText, slotFields, registersUnder, numberFields, queryFields}
+use Rattle.rows.specs.RowReplies.{storedIn, slotNames, nameFields, stateText, slotFields, registersUnder, numberFields, queryFields}
 use Rattle.rows.specs.declared.SlotRow.{SlotRow}
 use Rattle.rows.specs.declared.RegisterRow.{RegisterRow}
 use Rattle.rows.specs.declared.SlotState.the-variants.{Free, Pending, Loading}

@@ -8,14 +8,14 @@ use Rattle.octets.specs.Texts.{text}
 use Rattle.fields.specs.Values.{Value, string}
 use Rattle.engine.specs.Refusals.{Header, general, own, RefusalEntry, extended, km}
 use Rattle.refusal_numbers.specs.declared.Entry.{Entry}
-use Rattle.refusal_numbers.specs.declared.Telling.{Telling}
-use Rattle.refusal_numbers.specs.declared.Telling.the-variants.{Nothing, Status, Numbered, Module}
+use Rattle.refusal_numbers.specs.declared.ReplyForm.{ReplyForm}
+use Rattle.refusal_numbers.specs.declared.ReplyForm.the-variants.{Nothing, Status, Numbered, Module}
 
 -- 1 to 4 write nothing, 5 to 7 are replied under GL!ER
 abbrev pub headerFor : ℕ → Option Header
 headerFor n = cond (leb n 4) none (cond (leb n 7) (some general) (some own))
 
-abbrev pub statusIn : Telling → List ℕ
+abbrev pub statusIn : ReplyForm → List ℕ
 statusIn Nothing = []
 statusIn (Status a b) = a ∷ b ∷ []
 statusIn Numbered = extended
@@ -26,7 +26,7 @@ abbrev pub sm : ℕ → List Value
 sm d = string (text "SM.3B." ++ (d ∷ [])) ∷ []
 
 -- the fields of the refusal with number n
-abbrev pub fieldsIn : Telling → ℕ → List Value
+abbrev pub fieldsIn : ReplyForm → ℕ → List Value
 fieldsIn Nothing n = []
 fieldsIn (Status a b) n = []
 fieldsIn Numbered n = km n

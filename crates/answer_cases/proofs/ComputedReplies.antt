@@ -29,7 +29,7 @@ use Rattle.key_records.specs.KeyRecords.{keyInForm}
 use Rattle.rows.specs.Lists.{padded, trimmed}
 use Rattle.rows.specs.Registers.{isVacant, attributeOf, isKeyOf, isUnder, isRegisterSound, isSameKey, freeRegister, filledRegister}
 use Rattle.rows.specs.Slots.{isZeroSlot, isNamed, isFilledSlot, isSlotSound, isSameSlot, freeSlot, filledSlot}
-use Rattle.rows.specs.Reports.{slotNames, stateText, slotFields, queryFields}
+use Rattle.rows.specs.RowReplies.{slotNames, stateText, slotFields, queryFields}
 use Rattle.rows.specs.Sound.{isOwned, areSound}
 use Rattle.rows.specs.Supplements.{isIdentityRight, isLoadRequestRight, isWellFormed}
 use Rattle.engine.specs.Requests.{areFieldsOf, recordIn, slotIn}
@@ -45,17 +45,17 @@ use Rattle.engine.specs.Usable.{isUsable}
 use Rattle.sample_run.specs.Run.{clock, hand, a, b, printA, printB, cardB, lent}
 
 -- slot A is PENDING, slot B IDLE with its key in register 1, and register 2 is free
-abbrev pub reported : Lent
-reported = lent (filledSlot Pending a printA clock) (filledSlot Idle b printB []) (filledRegister cardB)
+abbrev pub replyRows : Lent
+replyRows = lent (filledSlot Pending a printA clock) (filledSlot Idle b printB []) (filledRegister cardB)
 
 -- a request, the sequence in which SM?GL lists the slots, and the answer
-pub record Report : Type 0 where
+pub record ReplyCase : Type 0 where
   pub request : List ℕ
   pub sequence : List (List ℕ)
   pub answer : List ℕ
 
 -- SM?GL6991: SM!GL00PA~PB~7FFA
-abbrev pub rowByRow : Report
+abbrev pub rowByRow : ReplyCase
 rowByRow = record {
   request = text "SM?GL6991\r";
   sequence = a ∷ b ∷ [];
@@ -63,7 +63,7 @@ rowByRow = record {
 }
 
 -- SM?GL6991: SM!GL00PB~PA~8FBE
-abbrev pub turned : Report
+abbrev pub turned : ReplyCase
 turned = record {
   request = text "SM?GL6991\r";
   sequence = b ∷ a ∷ [];
@@ -71,7 +71,7 @@ turned = record {
 }
 
 -- SM?KQPA~B1D9: SM!KQ00PPENDING~PA~P~H~P20260101T000000Z~HAAAAAAAAAAAAAAAA~CB31
-abbrev pub pendingSlot : Report
+abbrev pub pendingSlot : ReplyCase
 pendingSlot = record {
   request = text "SM?KQPA~B1D9\r";
   sequence = [];
@@ -79,7 +79,7 @@ pendingSlot = record {
 }
 
 -- SM?KQPB~41D9: SM!KQ00PACTIVE~PB~P~HBBBBBBBBBBBBBBBB~P~H~N1~555C
-abbrev pub idleSlot : Report
+abbrev pub idleSlot : ReplyCase
 idleSlot = record {
   request = text "SM?KQPB~41D9\r";
   sequence = [];
@@ -87,7 +87,7 @@ idleSlot = record {
 }
 
 -- SM?GAN1~B688: SM!GA00PACT20130716T151031Z;BDT20130716T151031Z;CLMFFFFFFFF;CLU0;DKG04;IUT20380119T031407Z;KCV92E101;KEN255;KRN6;KSLB;KTC2;SBMFFFF;SGC0000758825;ULM999999999;VND0;~5EC3
-abbrev pub filledRegisterShown : Report
+abbrev pub filledRegisterShown : ReplyCase
 filledRegisterShown = record {
   request = text "SM?GAN1~B688\r";
   sequence = [];
@@ -95,23 +95,23 @@ filledRegisterShown = record {
 }
 
 -- SM?GAN12~8602: SM!GA22CA00
-abbrev pub emptyRegister : Report
+abbrev pub emptyRegister : ReplyCase
 emptyRegister = record {
   request = text "SM?GAN12~8602\r";
   sequence = [];
   answer = text "SM!GA22CA00\r";
 }
 
-abbrev pub reports : List Report
-reports = rowByRow ∷ turned ∷ pendingSlot ∷ idleSlot ∷ filledRegisterShown ∷ emptyRegister ∷ []
+abbrev pub replyCases : List ReplyCase
+replyCases = rowByRow ∷ turned ∷ pendingSlot ∷ idleSlot ∷ filledRegisterShown ∷ emptyRegister ∷ []
 
-abbrev pub EachReported : List Report → Type 0
-EachReported [] = Unit {0}
-EachReported (r ∷ rs) = (response (answerOf (callOf reported (hand (r .request)))) (r .sequence) ≡ r .answer) × EachReported rs
+abbrev pub EachReplied : List ReplyCase → Type 0
+EachReplied [] = Unit {0}
+EachReplied (r ∷ rs) = (response (answerOf (callOf replyRows (hand (r .request)))) (r .sequence) ≡ r .answer) × EachReplied rs
 
-pub each-reported : EachReported reports
+pub each-replied : EachReplied replyCases
 unfolding crcBit crcEight crcByte hexDigit sumDigits endsInSum isAlphanumeric areAll isIdentifier isUnpadded isNumber daysIn isDate isTime isDateAndTime timestampOf isTimestamp typed valuesOf contentBytes endsInReturn isWhole isChecked textOf headerOf payloadOf ending framed answered headers commandOf replyBytes bodyOf field isRecord isAlgorithm table nameOf valueOf fits isCard isMet isIncoming identityInForm keyInForm padded trimmed isVacant attributeOf isRegisterSound isSameKey freeRegister isZeroSlot isNamed isFilledSlot isSlotSound isSameSlot freeSlot filledSlot isOwned areSound isIdentityRight isLoadRequestRight isWellFormed areFieldsOf recordIn areCounts questions refused answers.answered listed answerOf isStored isEntryOf inRow filledRegister isOctets isUnder isKeyOf slotIn slotNamed isFilled slotNames stateText slotFields queryFields decDigits decimalBytes
-each-reported = (refl, (refl, (refl, (refl, (refl, (refl, tt))))))
+each-replied = (refl, (refl, (refl, (refl, (refl, (refl, tt))))))
 
 -- which key may vend: that of register 1, under B, where B is IDLE, and not while B is PENDING or LOADING; no register that is free, 0 or beyond the rows
 abbrev tablesWith : SlotRow → Tables
