@@ -14,25 +14,20 @@ use Rattle.rows.specs.declared.SlotRow.{SlotRow}
 use Rattle.rows.specs.declared.RegisterRow.{RegisterRow}
 use Rattle.rows.specs.declared.SlotState.the-variants.{Free}
 use Rattle.rows.proofs.ListLaws.{found}
-use Rattle.engine.specs.Requests.{commandIn, fieldsIn, recordIn, slotIn}
-use Rattle.engine.specs.Questions.{Call, placeIn, isPlace, placeElse, slotPlace, freePlace, keyPlace, vacantPlace, sessionPlace, storePlace, slotNamed, groupIn, revisionIn, questions, questionsOf}
+use Rattle.engine.specs.Requests.{fieldsIn}
+use Rattle.engine.specs.Questions.{Call, placeIn, isPlace, placeElse, slotPlace, freePlace, keyPlace, vacantPlace, sessionPlace, storePlace, groupIn, revisionIn}
 use Rattle.engine.specs.Answers.{cardPlace}
 use Rattle.engine.specs.Decisions.{decisionOf}
 use Rattle.engine.specs.declared.Decision.{Decision}
-use Rattle.engine.proofs.QuestionLaws.{AllYes}
+use Rattle.engine.proofs.Steps.{Yes, yes-of}
 use Rattle.engine.proofs.DecisionLaws.{commandFor, isRefuse, granted-answer}
 
 -- every question of a command was a yes
 abbrev pub Asked : Call → Command → Type 0
-Asked c k =
-    AllYes (questionsOf c k (fieldsIn (c .request)) (recordIn k (fieldsIn (c .request))) (slotIn k (fieldsIn (c .request))) (slotNamed (slotIn k (fieldsIn (c .request))) (c .slots)))
-
-all-asked : (c : Call) → AllYes (questions c) → Asked c (commandIn (c .request))
-unfolding questions
-all-asked c y = y
+Asked c k = Yes c k (fieldsIn (c .request))
 
 pub asked-of : (c : Call) (d : Decision) → decisionOf c ≡ d → isRefuse d ≡ false → Asked c (commandFor d)
-asked-of c d e n = let k = granted-answer c d e n in subst (Asked c) (k .command) (all-asked c (k .yeses))
+asked-of c d e n = let k = granted-answer c d e n in subst (Asked c) (k .command) (yes-of c (k .none-first))
 
 -- a place that was found is one of the rows
 pub first-below : {A : Type 0} (f : A → Bool) (d : A) (l : List A) → isPlace (firstFrom f 0 l) ≡ true → placeIn l (firstFrom f 0 l) < length l

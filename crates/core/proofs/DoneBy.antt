@@ -100,14 +100,14 @@ module _ (t : Tables) (x : Supplement) (q : List ℕ) (room : ℕ) where
   shown : (k : ℕ) → decisionOf k₀ ≡ Show k → getD (t .registers) k freeRegister ≡ registerNumbered (registerIn (fieldsIn q)) (registerRows t)
   shown k e =
       let w = show-place k₀ k e in
-      let h : k < length (registerRows t) = rw (← w) (filled-below (registerIn (fieldsIn q)) (registerRows t) (asked-of k₀ (Show k) e refl .1 .1 .1 .1 .1 .1 .1 .1 .1 .1 .1 .1 .1 .1 .1 .1 .1 .1 .1 .1 .0)) in
+      let h : k < length (registerRows t) = rw (← w) (filled-below (registerIn (fieldsIn q)) (registerRows t) (asked-of k₀ (Show k) e refl .filled)) in
       rw w (getD-front (t .«register_count») (t .registers) k freeRegister h)
 
   queried : (k : ℕ) → decisionOf k₀ ≡ Query k → getD (t .slots) k freeSlot ≡ slotNamed (slotIn KQ (fieldsIn q)) (slotRows t)
   unfolding slotNamed
   queried k e =
       let w = query-place k₀ k e in
-      let h : k < length (slotRows t) = rw (← w) (slot-below (slotIn KQ (fieldsIn q)) (slotRows t) (asked-of k₀ (Query k) e refl .1 .1 .1 .1 .1 .1 .1 .1 .1 .1 .1 .0)) in
+      let h : k < length (slotRows t) = rw (← w) (slot-below (slotIn KQ (fieldsIn q)) (slotRows t) (asked-of k₀ (Query k) e refl .known)) in
       rw w (getD-front (t .«slot_count») (t .slots) k freeSlot h)
 
   pub response-is : (d : Decision) → decisionOf k₀ ≡ d → responseFor d t x q ≡ response (answerOf k₀) names

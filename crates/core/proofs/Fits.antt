@@ -1,5 +1,5 @@
 -- What a decision says of its places, its strings and the room is enough to write its response and to change the rows.
-use mathlib.Core.Path.{_≡_, refl, sym, ap, subst, _∙_}
+use mathlib.Core.Path.{_≡_, refl, sym, ap, _∙_}
 use mathlib.Core.Bool.{true, false, not}
 use mathlib.Core.List.{List, [], _∷_, map}
 use mathlib.Core.Option.{Option, none, some}
@@ -46,9 +46,9 @@ use Rattle.engine.specs.Decisions.{decisionOf}
 use Rattle.engine.specs.declared.Refusal.{Refusal}
 use Rattle.engine.specs.declared.Decision.{Decision}
 use Rattle.engine.specs.declared.Decision.the-variants.{Refuse, Reset, Pend, Open, Load, Finish, Delete, Clear, Show, Enumerate, Query}
-use Rattle.engine.proofs.DecisionLaws.{commandFor, isRefuse, granted-answer, refused-first}
+use Rattle.engine.proofs.DecisionLaws.{refused-first}
 use Rattle.engine.proofs.RefusalLaws.{isUnwritten, isOwn, Group, of-tables, of-message, of-later, refusal-group, tables-unwritten, message-general}
-use Rattle.engine.proofs.Steps.{Yes, yes-of, is-short}
+use Rattle.engine.proofs.Steps.{is-short}
 use Rattle.refusals.specs.RefusalForms.{CanRefuse}
 use Rattle.refusals.proofs.RefusalLaws.{can-tell}
 use Rattle.request_parts.specs.Parts.{cardOf}
@@ -107,14 +107,11 @@ module _ (c : Call) where
 
   module _ (k : Command) (y : Asked c k) where
     has-room : HasRoom (length (c .request)) (c .room)
-    has-room = (whole-ten (c .request) (y .1 .1 .1 .1 .0), leb-true 1024 (c .room) (y .1 .0))
-
-  yes-at : (d : Decision) → decisionOf c ≡ d → isRefuse d ≡ false → Yes c (commandFor d) (fieldsIn (c .request))
-  yes-at d e n = let k = granted-answer c d e n in subst (λ (o : Command). Yes c o (fieldsIn (c .request))) (k .command) (yes-of c (k .none-first))
+    has-room = (whole-ten (c .request) (y .whole), leb-true 1024 (c .room) (y .room))
 
   loaded-short : (k : ℕ) → decisionOf c ≡ Load k → length (cardOf (c .supplement) (fieldsIn (c .request))) ≤ 256
   unfolding recordIn slotIn
-  loaded-short k e = is-short c (fieldsIn (c .request)) (yes-at (Load k) e refl)
+  loaded-short k e = is-short c (fieldsIn (c .request)) (asked-of c (Load k) e refl)
 
 -- a slot that was found, and the KMCID that its row keeps
 found-at : (s : List ℕ) (l : List SlotRow) (k : ℕ) → isPlace (slotPlace s l) ≡ true → placeIn l (slotPlace s l) ≡ k → slotPlace s l ≡ some k
@@ -142,38 +139,38 @@ module _ (t : Tables) (x : Supplement) (q : List ℕ) (room : ℕ) (owners : Lis
   -- a place among the rows is one of the places
   slot-place : (o : Command) → Asked k₀ o → (k i : ℕ) → i ≡ k → i < length (take (t .«slot_count») (t .slots)) → k < 8
   slot-place o y k i e h =
-      let a = slots-few (t .«slot_count») (t .«register_count») (y .0) in
+      let a = slots-few (t .«slot_count») (t .«register_count») (y .counts) in
       let b = take-short (t .«slot_count») (t .slots) in
       omega arith
 
   register-place : (o : Command) → Asked k₀ o → (k i : ℕ) → i ≡ k → i < length (take (t .«register_count») (t .registers)) → k < 32
   register-place o y k i e h =
-      let a = registers-few (t .«slot_count») (t .«register_count») (y .0) in
+      let a = registers-few (t .«slot_count») (t .«register_count») (y .counts) in
       let b = take-short (t .«register_count») (t .registers) in
       omega arith
 
   load-low : (k : ℕ) → decisionOf k₀ ≡ Load k → k < 32
   load-low k e =
       let y = asked-of k₀ (Load k) e refl in
-      register-place KL y k _ (load-place k₀ k e) (card-below (cardIn (recordIn KL vs)) (k₀ .registers) (y .1 .1 .1 .1 .1 .1 .1 .1 .1 .1 .1 .1 .1 .1 .1 .1 .1 .1 .1 .0))
+      register-place KL y k _ (load-place k₀ k e) (card-below (cardIn (recordIn KL vs)) (k₀ .registers) (y .home))
 
   delete-low : (k : ℕ) → decisionOf k₀ ≡ Delete k → k < 8
   delete-low k e =
       let y = asked-of k₀ (Delete k) e refl in
-      slot-place KX y k _ (delete-place k₀ k e) (slot-below (slotIn KX vs) (k₀ .slots) (y .1 .1 .1 .1 .1 .1 .1 .1 .1 .1 .1 .0))
+      slot-place KX y k _ (delete-place k₀ k e) (slot-below (slotIn KX vs) (k₀ .slots) (y .known))
 
   -- the owners write_refusal the registers under a slot that was found
   owned-at : (o : Command) → Asked k₀ o → (s : List ℕ) (k : ℕ) → slotPlace s (slotRows t) ≡ some k → AreOwnedBy (k + 1) s (take (t .«register_count») owners) (registerRows t)
   unfolding areSound
   owned-at o y s k p =
-      let e : take (t .«register_count») owners ≡ map (ownerNumber (map keptName (slotRows t))) (registerRows t) = owned (y .0) (y .1 .1 .0) in
-      rw e (owned-by-number (slotRows t) (and-first (everyRow isSlotSound (slotRows t)) _ (y .1 .1 .0)) s k p (registerRows t))
+      let e : take (t .«register_count») owners ≡ map (ownerNumber (map keptName (slotRows t))) (registerRows t) = owned (y .counts) (y .sound) in
+      rw e (owned-by-number (slotRows t) (and-first (everyRow isSlotSound (slotRows t)) _ (y .sound)) s k p (registerRows t))
 
   deleted-at : (k : ℕ) → decisionOf k₀ ≡ Delete k → slotPlace (slotIn KX vs) (slotRows t) ≡ some k
-  deleted-at k e = found-at (slotIn KX vs) (slotRows t) k (asked-of k₀ (Delete k) e refl .1 .1 .1 .1 .1 .1 .1 .1 .1 .1 .1 .0) (delete-place k₀ k e)
+  deleted-at k e = found-at (slotIn KX vs) (slotRows t) k (asked-of k₀ (Delete k) e refl .known) (delete-place k₀ k e)
 
   queried-at : (k : ℕ) → decisionOf k₀ ≡ Query k → slotPlace (slotIn KQ vs) (slotRows t) ≡ some k
-  queried-at k e = found-at (slotIn KQ vs) (slotRows t) k (asked-of k₀ (Query k) e refl .1 .1 .1 .1 .1 .1 .1 .1 .1 .1 .1 .0) (query-place k₀ k e)
+  queried-at k e = found-at (slotIn KQ vs) (slotRows t) k (asked-of k₀ (Query k) e refl .known) (query-place k₀ k e)
 
   -- the response is written over the register rows after the decision; the three commands that look at them change none
   abbrev after : Decision → Tables
@@ -185,10 +182,10 @@ module _ (t : Tables) (x : Supplement) (q : List ℕ) (room : ℕ) (owners : Lis
   can-respond Reset e c w = has-room k₀ RS (asked-of k₀ Reset e refl)
   can-respond (Pend k) e c w =
       let y = asked-of k₀ (Pend k) e refl in
-      (has-room k₀ KC y, (sym (text-fields KC vs refl) ∙ y .1 .1 .1 .1 .1 .1 .1 .0, (public-short (firstText vs) (and-first (publicKeyInForm (firstText vs)) true (y .1 .1 .1 .1 .1 .1 .1 .1 .1 .0)), request-short x (y .1 .1 .1 .0))))
+      (has-room k₀ KC y, (sym (text-fields KC vs refl) ∙ y .fields, (public-short (firstText vs) (and-first (publicKeyInForm (firstText vs)) true (y .form)), request-short x (y .supplement))))
   can-respond (Open k) e c w =
       let y = asked-of k₀ (Open k) e refl in
-      (has-room k₀ KR y, (sym (text-fields KR vs refl) ∙ y .1 .1 .1 .1 .1 .1 .1 .0, response-short (firstText vs) (and-first (responseInForm (firstText vs)) true (y .1 .1 .1 .1 .1 .1 .1 .1 .1 .0))))
+      (has-room k₀ KR y, (sym (text-fields KR vs refl) ∙ y .fields, response-short (firstText vs) (and-first (responseInForm (firstText vs)) true (y .form))))
   can-respond (Load k) e c w =
       let y = asked-of k₀ (Load k) e refl in
       (has-room k₀ KL y, (w k refl .0, (w k refl .1, load-low k e)))
@@ -197,28 +194,28 @@ module _ (t : Tables) (x : Supplement) (q : List ℕ) (room : ℕ) (owners : Lis
   can-respond (Clear k) e c w = has-room k₀ KD (asked-of k₀ (Clear k) e refl)
   can-respond (Show k) e c w =
       let y = asked-of k₀ (Show k) e refl in
-      (has-room k₀ GA y, register-place GA y k _ (show-place k₀ k e) (filled-below (registerIn vs) (k₀ .registers) (y .1 .1 .1 .1 .1 .1 .1 .1 .1 .1 .1 .1 .1 .1 .1 .1 .1 .1 .1 .1 .0)))
+      (has-room k₀ GA y, register-place GA y k _ (show-place k₀ k e) (filled-below (registerIn vs) (k₀ .registers) (y .filled)))
   can-respond Enumerate e c w =
       let y = asked-of k₀ Enumerate e refl in
-      (has-room k₀ GL y, slots-few (t .«slot_count») (t .«register_count») (y .0))
+      (has-room k₀ GL y, slots-few (t .«slot_count») (t .«register_count») (y .counts))
   can-respond (Query k) e c w =
       let y = asked-of k₀ (Query k) e refl in
       let p = queried-at k e in
-      (has-room k₀ KQ y, (slot-place KQ y k _ (query-place k₀ k e) (slot-below (slotIn KQ vs) (k₀ .slots) (y .1 .1 .1 .1 .1 .1 .1 .1 .1 .1 .1 .0)), (registers-few (t .«slot_count») (t .«register_count») (y .0), rw (kept-at (slotIn KQ vs) (t .«slot_count») (t .slots) k p) (owned-at KQ y (slotIn KQ vs) k p))))
+      (has-room k₀ KQ y, (slot-place KQ y k _ (query-place k₀ k e) (slot-below (slotIn KQ vs) (k₀ .slots) (y .known)), (registers-few (t .«slot_count») (t .«register_count») (y .counts), rw (kept-at (slotIn KQ vs) (t .«slot_count») (t .slots) k p) (owned-at KQ y (slotIn KQ vs) k p))))
 
   pub can-slots : (d : Decision) → decisionOf k₀ ≡ d → CanChangeSlots d (t .«slot_count») vs
   can-slots (Refuse r) e = tt
-  can-slots Reset e = slots-few (t .«slot_count») (t .«register_count») (asked-of k₀ Reset e refl .0)
+  can-slots Reset e = slots-few (t .«slot_count») (t .«register_count») (asked-of k₀ Reset e refl .counts)
   can-slots (Pend k) e =
       let y = asked-of k₀ (Pend k) e refl in
-      (slot-place KC y k _ (pend-place k₀ k e) (session-below (slotIn KC vs) (k₀ .slots) (y .1 .1 .1 .1 .1 .1 .1 .1 .1 .1 .1 .1 .0)), sym (text-fields KC vs refl) ∙ y .1 .1 .1 .1 .1 .1 .1 .0)
+      (slot-place KC y k _ (pend-place k₀ k e) (session-below (slotIn KC vs) (k₀ .slots) (y .spot)), sym (text-fields KC vs refl) ∙ y .fields)
   can-slots (Open k) e =
       let y = asked-of k₀ (Open k) e refl in
-      slot-place KR y k _ (open-place k₀ k e) (slot-below (slotIn KR vs) (k₀ .slots) (y .1 .1 .1 .1 .1 .1 .1 .1 .1 .1 .1 .0))
+      slot-place KR y k _ (open-place k₀ k e) (slot-below (slotIn KR vs) (k₀ .slots) (y .known))
   can-slots (Load k) e = tt
   can-slots (Finish k) e =
       let y = asked-of k₀ (Finish k) e refl in
-      slot-place KF y k _ (finish-place k₀ k e) (slot-below (slotIn KF vs) (k₀ .slots) (y .1 .1 .1 .1 .1 .1 .1 .1 .1 .1 .1 .0))
+      slot-place KF y k _ (finish-place k₀ k e) (slot-below (slotIn KF vs) (k₀ .slots) (y .known))
   can-slots (Delete k) e = delete-low k e
   can-slots (Clear k) e = tt
   can-slots (Show k) e = tt
@@ -233,14 +230,14 @@ module _ (t : Tables) (x : Supplement) (q : List ℕ) (room : ℕ) (owners : Lis
   can-registers (Open k) e = tt
   can-registers (Load k) e =
       let y = asked-of k₀ (Load k) e refl in
-      (load-low k e, (y .1 .1 .1 .1 .1 .1 .1 .0, loaded-short k₀ k e))
+      (load-low k e, (y .fields, loaded-short k₀ k e))
   can-registers (Finish k) e = tt
   can-registers (Delete k) e =
       let y = asked-of k₀ (Delete k) e refl in
-      (delete-low k e, (registers-few (t .«slot_count») (t .«register_count») (y .0), owned-at KX y (slotIn KX vs) k (deleted-at k e)))
+      (delete-low k e, (registers-few (t .«slot_count») (t .«register_count») (y .counts), owned-at KX y (slotIn KX vs) k (deleted-at k e)))
   can-registers (Clear k) e =
       let y = asked-of k₀ (Clear k) e refl in
-      register-place KD y k _ (clear-place k₀ k e) (filled-below (registerIn vs) (k₀ .registers) (y .1 .1 .1 .1 .1 .1 .1 .1 .1 .1 .1 .1 .1 .1 .1 .1 .1 .1 .1 .1 .0))
+      register-place KD y k _ (clear-place k₀ k e) (filled-below (registerIn vs) (k₀ .registers) (y .filled))
   can-registers (Show k) e = tt
   can-registers Enumerate e = tt
   can-registers (Query k) e = tt

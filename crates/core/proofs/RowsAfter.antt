@@ -65,23 +65,23 @@ module _ (t : Tables) (x : Supplement) (q : List ℕ) (room : ℕ) where
   tables-are Reset e = same-tables (done Reset) Reset refl registers-kept ∙ ap (tablesAfter t) (effect-of c Reset e refl)
   tables-are (Pend k) e =
       let w = pend-place c k e in
-      let h : k < length (take n (t .slots)) = rw (← w) (session-below (slotIn KC vs) (c .slots) (asked-of c (Pend k) e refl .1 .1 .1 .1 .1 .1 .1 .1 .1 .1 .1 .1 .0)) in
+      let h : k < length (take n (t .slots)) = rw (← w) (session-below (slotIn KC vs) (c .slots) (asked-of c (Pend k) e refl .spot)) in
       same-tables (done (Pend k)) (Pend k) (rw w (set-front n (t .slots) k _ h)) registers-kept ∙ ap (tablesAfter t) (effect-of c (Pend k) e refl)
   tables-are (Open k) e =
-      same-tables (done (Open k)) (Open k) (moved _ (slotIn KR vs) k (open-place c k e) (asked-of c (Open k) e refl .1 .1 .1 .1 .1 .1 .1 .1 .1 .1 .1 .0)) registers-kept ∙ ap (tablesAfter t) (effect-of c (Open k) e refl)
+      same-tables (done (Open k)) (Open k) (moved _ (slotIn KR vs) k (open-place c k e) (asked-of c (Open k) e refl .known)) registers-kept ∙ ap (tablesAfter t) (effect-of c (Open k) e refl)
   tables-are (Load k) e =
       let w = load-place c k e in
-      let h : k < length (take m (t .registers)) = rw (← w) (card-below _ (c .registers) (asked-of c (Load k) e refl .1 .1 .1 .1 .1 .1 .1 .1 .1 .1 .1 .1 .1 .1 .1 .1 .1 .1 .1 .0)) in
+      let h : k < length (take m (t .registers)) = rw (← w) (card-below _ (c .registers) (asked-of c (Load k) e refl .home)) in
       same-tables (done (Load k)) (Load k) slots-kept (rw w (set-front m (t .registers) k _ h)) ∙ ap (tablesAfter t) (effect-of c (Load k) e refl)
   tables-are (Finish k) e =
-      same-tables (done (Finish k)) (Finish k) (moved _ (slotIn KF vs) k (finish-place c k e) (asked-of c (Finish k) e refl .1 .1 .1 .1 .1 .1 .1 .1 .1 .1 .1 .0)) registers-kept ∙ ap (tablesAfter t) (effect-of c (Finish k) e refl)
+      same-tables (done (Finish k)) (Finish k) (moved _ (slotIn KF vs) k (finish-place c k e) (asked-of c (Finish k) e refl .known)) registers-kept ∙ ap (tablesAfter t) (effect-of c (Finish k) e refl)
   tables-are (Delete k) e =
       let w = delete-place c k e in
-      let h : k < length (take n (t .slots)) = rw (← w) (slot-below (slotIn KX vs) (c .slots) (asked-of c (Delete k) e refl .1 .1 .1 .1 .1 .1 .1 .1 .1 .1 .1 .0)) in
+      let h : k < length (take n (t .slots)) = rw (← w) (slot-below (slotIn KX vs) (c .slots) (asked-of c (Delete k) e refl .known)) in
       same-tables (done (Delete k)) (Delete k) (rw w (set-front n (t .slots) k freeSlot h)) refl ∙ ap (tablesAfter t) (effect-of c (Delete k) e refl)
   tables-are (Clear k) e =
       let w = clear-place c k e in
-      let h : k < length (take m (t .registers)) = rw (← w) (filled-below (registerIn vs) (c .registers) (asked-of c (Clear k) e refl .1 .1 .1 .1 .1 .1 .1 .1 .1 .1 .1 .1 .1 .1 .1 .1 .1 .1 .1 .1 .0)) in
+      let h : k < length (take m (t .registers)) = rw (← w) (filled-below (registerIn vs) (c .registers) (asked-of c (Clear k) e refl .filled)) in
       same-tables (done (Clear k)) (Clear k) slots-kept (rw w (set-front m (t .registers) k freeRegister h)) ∙ ap (tablesAfter t) (effect-of c (Clear k) e refl)
   tables-are (Show k) e = same-tables (done (Show k)) (Show k) slots-kept registers-kept ∙ ap (tablesAfter t) (effect-of c (Show k) e refl)
   tables-are Enumerate e = same-tables (done Enumerate) Enumerate slots-kept registers-kept ∙ ap (tablesAfter t) (effect-of c Enumerate e refl)

@@ -15,7 +15,7 @@ use Rattle.engine.specs.Decisions.{decided, granted, laterQuestions, dec
 use Rattle.engine.specs.declared.Refusal.{Refusal}
 use Rattle.engine.specs.declared.Decision.{Decision}
 use Rattle.engine.specs.declared.Decision.the-variants.{Refuse, Reset, Pend, Open, Load, Finish, Delete, Clear, Show, Enumerate, Query}
-use Rattle.engine.proofs.QuestionLaws.{AllYes, all-yes}
+use Rattle.engine.proofs.Steps.{yes-of}
 
 -- questions in two groups: the first no of the first, else of the second
 abbrev pub orNo : Option Refusal → Option Refusal → Option Refusal
@@ -71,7 +71,6 @@ module _ (x : Call) (vs : List Value) (r s : List ℕ) where
 -- what is known where a decision is to carry out its command
 pub record Granted (x : Call) (d : Decision) : Type 0 where
   pub none-first : firstNo (questions x) ≡ none
-  pub yeses : AllYes (questions x)
   pub command : commandIn (x .request) ≡ commandFor d
   pub grants : granted x (commandFor d) (fieldsIn (x .request)) (recordIn (commandFor d) (fieldsIn (x .request))) (slotIn (commandFor d) (fieldsIn (x .request))) ≡ d
   pub answers : answerOf x ≡ effect x (commandFor d) (fieldsIn (x .request)) (recordIn (commandFor d) (fieldsIn (x .request))) (slotIn (commandFor d) (fieldsIn (x .request)))
@@ -108,17 +107,13 @@ module _ (x : Call) where
     unfolding decisionOf decisionFor
     command-decides e d p = p ∙ sym (rw (groups, t, e))
 
-  one-of-ten : AllYes (questions x) → isOneOfTen c ≡ true
-  unfolding questions
-  one-of-ten y = y .1 .1 .1 .1 .1 .1 .0
-
   pub refused-first : (r : Refusal) → decisionOf x ≡ Refuse r → firstNo (questions x) ≡ some r
   unfolding decisionOf
   refused-first r e = go (firstNo (questions x)) refl e
     where
       go : (o : Option Refusal) → firstNo (questions x) ≡ o → decided o (granted x c vs (recordIn c vs) (slotIn c vs)) ≡ Refuse r → o ≡ some r
       go (some q) w p = cc
-      go none w p = let g = granted-for x vs (recordIn c vs) (slotIn c vs) c (one-of-ten (all-yes (questions x) w)) .1 in nope (cc)
+      go none w p = let g = granted-for x vs (recordIn c vs) (slotIn c vs) c (yes-of x w .header) .1 in nope (cc)
 
   pub refused-answer : (r : Refusal) → decisionOf x ≡ Refuse r → answerOf x ≡ refused x r
   unfolding answerOf
@@ -131,6 +126,5 @@ module _ (x : Call) where
       go : (o : Option Refusal) → firstNo (questions x) ≡ o → decided o (granted x c vs (recordIn c vs) (slotIn c vs)) ≡ d → Granted x d
       go (some q) w p = nope (cc)
       go none w p =
-          let y = all-yes (questions x) w in
-          let g : c ≡ commandFor d = sym (granted-for x vs (recordIn c vs) (slotIn c vs) c (one-of-ten y) .0) ∙ ap commandFor p in
-          record { none-first = w; yeses = y; command = g; grants = rw (← g) p; answers = rw (w, ← g) refl }
+          let g : c ≡ commandFor d = sym (granted-for x vs (recordIn c vs) (slotIn c vs) c (yes-of x w .header) .0) ∙ ap commandFor p in
+          record { none-first = w; command = g; grants = rw (← g) p; answers = rw (w, ← g) refl }

@@ -1,7 +1,7 @@
 -- Each answer of the engine is one of the steps of which demand 3 is proved.
 use mathlib.Core.Path.{_≡_, refl, ap, _∙_}
 use mathlib.Core.Logic.{_≢_}
-use mathlib.Core.Bool.{Bool, true, false, cond, not, _&&_, _||_}
+use mathlib.Core.Bool.{Bool, true, false, cond, not}
 use mathlib.Core.List.{List, [], _∷_, map}
 use mathlib.Core.Option.{Option, none, some}
 use Prim.Native.Nat.{ℕ, zero, suc, _+_, _-_, _≤_}
@@ -26,7 +26,7 @@ use Rattle.incoming_cards.specs.Incoming.{isIncoming}
 use Rattle.stored_cards.specs.Stored.{loadValues}
 use Rattle.records.specs.Records.{field}
 use Rattle.identities.specs.Identities.{colon, nameIn, fingerprintIn, identityInForm}
-use Rattle.key_records.specs.KeyRecords.{bar, publicKeyInForm, responseInForm, keyInForm}
+use Rattle.key_records.specs.KeyRecords.{bar, publicKeyInForm, keyInForm}
 use Rattle.stored_cards.specs.Stored.{inRow}
 use Rattle.card_laws.proofs.Incoming.{stored-text, stored-short}
 use Rattle.commands.specs.declared.Command.{Command}
@@ -44,8 +44,8 @@ use Rattle.rows.specs.declared.SlotState.the-variants.{Pending, Loading, Idle}
 use Rattle.rows.proofs.ListLaws.{map-set, map-sweep, every-true}
 use Rattle.history.specs.Model.{pending, loading, idle, used, free, key, kl, loaded, Item, _⇒_, dropKey, dropSlot, stopped, reset}
 use Rattle.history.specs.Step.{Step, refuses, reads, starts, responds, loads, finishes, deletes, clears, resets}
-use Rattle.engine.specs.Requests.{commandIn, fieldsIn, isOneOfTen, registerIn, recordIn, kmcIdentityIn, slotIn, cardIn, firstText}
-use Rattle.engine.specs.Questions.{Call, asked, areCounts, isPlace, slotPlace, sessionPlace, storePlace, slotNamed, placeIn, isFilled, groupIn, revisionIn, questions, firstNo}
+use Rattle.engine.specs.Requests.{commandIn, fieldsIn, isOneOfTen, areFieldsOf, registerIn, recordIn, kmcIdentityIn, slotIn, cardIn, firstText}
+use Rattle.engine.specs.Questions.{Call, asked, areCounts, isRecordInForm, isStateRight, isPlace, slotPlace, sessionPlace, storePlace, slotNamed, placeIn, isFilled, groupIn, revisionIn, questions, firstNo}
 use Rattle.engine.specs.Answers.{Answer, response, accepted, slotsMoved, slotsPending, slotsWithout, loadedCard, cardPlace, answered, listed, effect, answerTo, answerOf}
 use Rattle.engine.specs.Answers as answers
 use Rattle.engine.specs.Words.{stateIn, slotIs, registerIs, tablesOf, requestOf, itemFor, isAccepted}
@@ -66,14 +66,16 @@ IsStep x c vs a = (names : List (List ℕ)) → Moves x (itemFor (requestOf c vs
 -- what is known of an accepted request
 pub record Yes (x : Call) (c : Command) (vs : List Value) : Type 0 where
   pub counts : areCounts (x .slotCount) (x .registerCount) ≡ true
+  pub room : leb 1024 (x .room) ≡ true
   pub sound : areSound (x .slots) (x .registers) ≡ true
   pub supplement : isWellFormed (x .supplement) ≡ true
   pub whole : isWhole (x .request) ≡ true
   pub header : isOneOfTen c ≡ true
-  pub form : (asked (KC ∷ []) c (publicKeyInForm (recordIn c vs)) && (asked (KR ∷ []) c (responseInForm (recordIn c vs)) && asked (KL ∷ []) c (keyInForm (recordIn c vs)))) ≡ true
+  pub fields : areFieldsOf c vs ≡ true
+  pub form : isRecordInForm c (recordIn c vs) ≡ true
   pub known : asked (KR ∷ KL ∷ KF ∷ KX ∷ KQ ∷ []) c (isPlace (slotPlace (slotIn c vs) (x .slots))) ≡ true
   pub spot : asked (KC ∷ []) c (isPlace (sessionPlace (slotIn c vs) (x .slots))) ≡ true
-  pub state : (asked (KR ∷ []) c (hasState Pending (slotNamed (slotIn c vs) (x .slots))) && (asked (KL ∷ []) c (hasState Loading (slotNamed (slotIn c vs) (x .slots))) && asked (KF ∷ []) c (hasState Pending (slotNamed (slotIn c vs) (x .slots)) || hasState Loading (slotNamed (slotIn c vs) (x .slots))))) ≡ true
+  pub state : isStateRight c (slotNamed (slotIn c vs) (x .slots)) ≡ true
   pub home : asked (KL ∷ []) c (isPlace (storePlace (groupIn (cardIn (recordIn c vs))) (revisionIn (cardIn (recordIn c vs))) (x .registers))) ≡ true
   pub filled : asked (GA ∷ KD ∷ []) c (isFilled (registerIn vs) (x .registers)) ≡ true
 
@@ -83,10 +85,12 @@ yes-of x e =
     let y : AllYes (questions x) = all-yes (questions x) e in
     record {
       counts = y .0;
+      room = y .1 .0;
       sound = y .1 .1 .0;
       supplement = y .1 .1 .1 .0;
       whole = y .1 .1 .1 .1 .0;
       header = y .1 .1 .1 .1 .1 .1 .0;
+      fields = y .1 .1 .1 .1 .1 .1 .1 .0;
       form = y .1 .1 .1 .1 .1 .1 .1 .1 .1 .0;
       known = y .1 .1 .1 .1 .1 .1 .1 .1 .1 .1 .1 .0;
       spot = y .1 .1 .1 .1 .1 .1 .1 .1 .1 .1 .1 .1 .0;
