@@ -24,7 +24,7 @@ run:
 
 # Proves and runs the vectors program, and prints what each vector gives.
 vectors:
-	@bash tools/run.sh vectors
+	@bash tools/run.sh case_vectors
 
 format:
 	@rt fmt

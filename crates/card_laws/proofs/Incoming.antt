@@ -8,26 +8,26 @@ use native.Mathlib.Omega.{arith}
 use lib.Dec.{T, eqb, leb, le→leb}
 use lib.ListN.{length, take, drop}
 use borrow.Author.Tests.{eq-eqb, eqb-true}
-use Rattle.octets.specs.Strings.{run, isNot}
-use Rattle.pieces.specs.Pieces.{isEnded}
-use Rattle.octets.proofs.Flags.{nope, and-left, and-right, yes, no, holds}
-use Rattle.text.specs.Classes.{areAll}
-use Rattle.text.specs.declared.Class.the-variants.{Text}
-use Rattle.decimals.specs.Decimals.{isNumber, isUnpadded}
-use Rattle.calendar.specs.Calendar.{isDate, isTime, daysIn}
-use Rattle.timestamp.specs.Timestamps.{isDateAndTime, isTimestamp}
-use Rattle.forms.specs.Forms.{inForm}
-use Rattle.forms.specs.declared.Form.the-variants.{Number, Digits, Hex, Name}
-use Rattle.forms.proofs.FormBounds.{most}
-use Rattle.cards.specs.Entries.{semicolon, entries, isNamed, nameOf, valueIn, valueOf, orElse, valueOr}
-use Rattle.attributes.specs.Table.{CLU, KCV, KRN, KSL, SGC, VND, table, name, presence, form}
-use Rattle.incoming_cards.specs.Incoming.{fits, fitsName, isFitting, every, ascend, isCard, isMet, hasRequired, isIncoming}
-use Rattle.stored_cards.specs.Stored.{EngineValues, defaultCard, storedValue, cardBytes, storedCard, inRow, isStored}
-use Rattle.attributes.specs.declared.Presence.{Presence}
-use Rattle.attributes.specs.declared.Presence.the-variants.{Required, Optional, Engine}
-use Rattle.attributes.specs.declared.Attribute.{Attribute}
-use Rattle.cards.proofs.EntryLaws.{a-name}
-use Rattle.attributes.proofs.TableLaws.{allRows, at-row, all-rows, name-some}
+use Rattle.byte_strings.specs.Strings.{run, isNot}
+use Rattle.byte_pieces.specs.Pieces.{isEnded}
+use Rattle.byte_strings.proofs.Flags.{nope, and-left, and-right, yes, no, holds}
+use Rattle.text_classes.specs.Classes.{areAll}
+use Rattle.text_classes.specs.declared.Class.the-variants.{Text}
+use Rattle.text_decimals.specs.Decimals.{isNumber, isUnpadded}
+use Rattle.text_calendar.specs.Calendar.{isDate, isTime, daysIn}
+use Rattle.text_timestamps.specs.Timestamps.{isDateAndTime, isTimestamp}
+use Rattle.text_forms.specs.Forms.{inForm}
+use Rattle.text_forms.specs.declared.Form.the-variants.{Number, Digits, Hex, Name}
+use Rattle.text_forms.proofs.FormBounds.{most}
+use Rattle.card_entries.specs.Entries.{semicolon, entries, isNamed, nameOf, valueIn, valueOf, orElse, valueOr}
+use Rattle.card_attributes.specs.Table.{CLU, KCV, KRN, KSL, SGC, VND, table, name, presence, form}
+use Rattle.card_incoming.specs.Incoming.{fits, fitsName, isFitting, every, ascend, isCard, isMet, hasRequired, isIncoming}
+use Rattle.card_stored.specs.Stored.{EngineValues, defaultCard, storedValue, cardBytes, storedCard, inRow, isStored}
+use Rattle.card_attributes.specs.declared.Presence.{Presence}
+use Rattle.card_attributes.specs.declared.Presence.the-variants.{Required, Optional, Engine}
+use Rattle.card_attributes.specs.declared.Attribute.{Attribute}
+use Rattle.card_entries.proofs.EntryLaws.{a-name}
+use Rattle.card_attributes.proofs.TableLaws.{allRows, at-row, all-rows, name-some}
 use Rattle.card_laws.proofs.RoundTrip.{isOther, isDistinct, all-distinct, room, isInForm, isWithin, fits-room, value-short, is-short, is-stored, is-text, is-measured, reads-row, reads-card}
 
 -- the attribute's own test, by its name

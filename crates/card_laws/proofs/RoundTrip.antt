@@ -9,23 +9,23 @@ use lib.Dec.{T, eqb, ltb, leb, le→leb, leb→le}
 use lib.ListN.{length, take, drop, replicate, length-append, length-replicate}
 use lib.Seq.{take-at, drop-append-add}
 use borrow.Author.Tests.{eq-eqb, lt-ltb, eqb-true}
-use Rattle.octets.specs.Strings.{run, isNot, allOf}
-use Rattle.pieces.specs.Pieces.{pieces}
-use Rattle.octets.proofs.Flags.{and-left, and-right, yes, no}
-use Rattle.octets.proofs.StringLaws.{all-run, all-append}
-use Rattle.pieces.proofs.PieceLaws.{pieces-cons}
-use Rattle.text.specs.Classes.{isOf, areAll}
-use Rattle.text.specs.declared.Class.the-variants.{Text, Zero}
-use Rattle.text.proofs.ClassLaws.{class-plain}
-use Rattle.forms.specs.Forms.{inForm}
-use Rattle.forms.proofs.FormBounds.{in-form-plain, semicolon, in-form-text, isBounded, most, in-form-short}
-use Rattle.cards.specs.Entries.{nameOf, valueIn, valueOf, nameBytes, entryBytes}
-use Rattle.attributes.specs.Table.{table, name, form}
-use Rattle.stored_cards.specs.Stored.{cardBytes, inRow, isEntryOf, isStored}
-use Rattle.stored_cards.proofs.Sequence.{isStoredFrom, first-cut, stored-by-entries}
-use Rattle.attributes.specs.declared.Attribute.{Attribute}
-use Rattle.cards.proofs.EntryLaws.{a-name, entry-length}
-use Rattle.attributes.proofs.TableLaws.{allRows, at-row, all-rows, name-some}
+use Rattle.byte_strings.specs.Strings.{run, isNot, allOf}
+use Rattle.byte_pieces.specs.Pieces.{pieces}
+use Rattle.byte_strings.proofs.Flags.{and-left, and-right, yes, no}
+use Rattle.byte_strings.proofs.StringLaws.{all-run, all-append}
+use Rattle.byte_pieces.proofs.PieceLaws.{pieces-cons}
+use Rattle.text_classes.specs.Classes.{isOf, areAll}
+use Rattle.text_classes.specs.declared.Class.the-variants.{Text, Zero}
+use Rattle.text_classes.proofs.ClassLaws.{class-plain}
+use Rattle.text_forms.specs.Forms.{inForm}
+use Rattle.text_forms.proofs.FormBounds.{in-form-plain, semicolon, in-form-text, isBounded, most, in-form-short}
+use Rattle.card_entries.specs.Entries.{nameOf, valueIn, valueOf, nameBytes, entryBytes}
+use Rattle.card_attributes.specs.Table.{table, name, form}
+use Rattle.card_stored.specs.Stored.{cardBytes, inRow, isEntryOf, isStored}
+use Rattle.card_stored.proofs.Sequence.{isStoredFrom, first-cut, stored-by-entries}
+use Rattle.card_attributes.specs.declared.Attribute.{Attribute}
+use Rattle.card_entries.proofs.EntryLaws.{a-name, entry-length}
+use Rattle.card_attributes.proofs.TableLaws.{allRows, at-row, all-rows, name-some}
 
 -- a name that is written is read, holds no semicolon and is text; computed for the table
 abbrev isRead : Attribute → Bool

@@ -6,18 +6,18 @@ use Prim.Native.Nat.{ℕ, suc, _+_, _<_}
 use lib.Dec.{T, eqb, ltb, ltb→lt}
 use lib.ListN.{length, take, drop}
 use borrow.Author.Tests.{ltb-true, eqb-true}
-use Rattle.octets.specs.Strings.{run, isNot, allOf}
-use Rattle.octets.proofs.Flags.{and-first, and-second, and-both, and-left, and-right}
-use Rattle.text.specs.Classes.{isOf, areAll}
-use Rattle.text.specs.declared.Class.the-variants.{Text, Zero}
-use Rattle.forms.specs.Forms.{inForm}
-use Rattle.cards.specs.Entries.{entryLength, nameOf}
-use Rattle.attributes.specs.Table.{table, name, form}
-use Rattle.attributes.specs.declared.Attribute.{Attribute}
-use Rattle.attributes.proofs.TableLaws.{allRows}
-use Rattle.stored_cards.specs.Stored.{isEntryOf, isStored}
-use Rattle.stored_cards.proofs.Runs.{parted}
-use Rattle.stored_cards.proofs.Sequence.{isStoredFrom, entry-text, stored-walk}
+use Rattle.byte_strings.specs.Strings.{run, isNot, allOf}
+use Rattle.byte_strings.proofs.Flags.{and-first, and-second, and-both, and-left, and-right}
+use Rattle.text_classes.specs.Classes.{isOf, areAll}
+use Rattle.text_classes.specs.declared.Class.the-variants.{Text, Zero}
+use Rattle.text_forms.specs.Forms.{inForm}
+use Rattle.card_entries.specs.Entries.{entryLength, nameOf}
+use Rattle.card_attributes.specs.Table.{table, name, form}
+use Rattle.card_attributes.specs.declared.Attribute.{Attribute}
+use Rattle.card_attributes.proofs.TableLaws.{allRows}
+use Rattle.card_stored.specs.Stored.{isEntryOf, isStored}
+use Rattle.card_stored.proofs.Runs.{parted}
+use Rattle.card_stored.proofs.Sequence.{isStoredFrom, entry-text, stored-walk}
 
 -- the first entry, and what follows it
 module _ (x : Attribute) (rs : List Attribute) (s : List ℕ) (e : isStoredFrom (x ∷ rs) s ≡ true) where

@@ -9,22 +9,22 @@ use lib.ListN.{length, getD, take, drop, length-drop, take-append-drop}
 use lib.Seq.{drop-drop, drop-cons, length-take-le, getD-take}
 use borrow.Author.Tests.{eq-eqb, lt-ltb, leb-true, ltb-true, eqb-true}
 use mathlib.Core.Logic.{⊎-elim}
-use Rattle.octets.specs.Texts.{text}
-use Rattle.octets.specs.Strings.{run, isNot, allOf}
-use Rattle.octets.proofs.Flags.{nope, and-first, and-second, and-both}
-use Rattle.octets.proofs.StringLaws.{drop-take, all-run}
-use Rattle.text.specs.Classes.{isOf, areAll}
-use Rattle.text.specs.declared.Class.the-variants.{Capital, Digit, Hexadecimal}
-use Rattle.text.proofs.ClassLaws.{class-plain}
-use Rattle.decimals.specs.Decimals.{decimal, isUnpadded, isNumber}
-use Rattle.decimals.proofs.NumberLaws.{number-short}
-use Rattle.timestamp.proofs.Plain.{timestamp-length}
-use Rattle.forms.specs.Forms.{isAlgorithm, inForm}
-use Rattle.forms.specs.declared.Form.{Form}
-use Rattle.forms.specs.declared.Form.the-variants.{Timestamp, Algorithm, Number, Digits, Hex, HexSome, Name, Empty}
-use Rattle.forms.proofs.FormBounds.{in-form-plain, semicolon, algorithm-is}
-use Rattle.cards.specs.Entries.{entryLength, nameOf}
-use Rattle.cards.proofs.EntryLaws.{name-length, name-capitals}
+use Rattle.byte_strings.specs.Texts.{text}
+use Rattle.byte_strings.specs.Strings.{run, isNot, allOf}
+use Rattle.byte_strings.proofs.Flags.{nope, and-first, and-second, and-both}
+use Rattle.byte_strings.proofs.StringLaws.{drop-take, all-run}
+use Rattle.text_classes.specs.Classes.{isOf, areAll}
+use Rattle.text_classes.specs.declared.Class.the-variants.{Capital, Digit, Hexadecimal}
+use Rattle.text_classes.proofs.ClassLaws.{class-plain}
+use Rattle.text_decimals.specs.Decimals.{decimal, isUnpadded, isNumber}
+use Rattle.text_decimals.proofs.NumberLaws.{number-short}
+use Rattle.text_timestamps.proofs.Plain.{timestamp-length}
+use Rattle.text_forms.specs.Forms.{isAlgorithm, inForm}
+use Rattle.text_forms.specs.declared.Form.{Form}
+use Rattle.text_forms.specs.declared.Form.the-variants.{Timestamp, Algorithm, Number, Digits, Hex, HexSome, Name, Empty}
+use Rattle.text_forms.proofs.FormBounds.{in-form-plain, semicolon, algorithm-is}
+use Rattle.card_entries.specs.Entries.{entryLength, nameOf}
+use Rattle.card_entries.proofs.EntryLaws.{name-length, name-capitals}
 use Rattle.card_places.specs.Places.{startsWith, isLong}
 
 -- the length of a value in such a form

@@ -8,16 +8,16 @@ use lib.Dec.{T, leb}
 use lib.ListN.{length, getD, take, drop, replicate, length-drop}
 use lib.Seq.{getD-drop, getD-take}
 use borrow.Author.Tests.{le-leb, lt-leb, not-true, not-false}
-use Rattle.octets.specs.Texts.{text}
-use Rattle.octets.proofs.Flags.{nope, and-first}
-use Rattle.forms.specs.Forms.{inForm}
-use Rattle.forms.specs.declared.Form.{Form}
-use Rattle.forms.specs.declared.Form.the-variants.{Timestamp, Algorithm, Number, Digits, Hex, Name}
-use Rattle.cards.specs.Entries.{nameBytes}
-use Rattle.attributes.specs.Table.{ACT, BDT, CLM, CLU, DKG, IUT, KCV, KEN, KRN, KSL, KTC, SBM, SGC, ULM, VND, table}
-use Rattle.stored_cards.specs.Stored.{isStored}
-use Rattle.patterns.specs.Patterns.{fits}
-use Rattle.patterns.proofs.PatternLaws.{fits-append, fits-length}
+use Rattle.byte_strings.specs.Texts.{text}
+use Rattle.byte_strings.proofs.Flags.{nope, and-first}
+use Rattle.text_forms.specs.Forms.{inForm}
+use Rattle.text_forms.specs.declared.Form.{Form}
+use Rattle.text_forms.specs.declared.Form.the-variants.{Timestamp, Algorithm, Number, Digits, Hex, Name}
+use Rattle.card_entries.specs.Entries.{nameBytes}
+use Rattle.card_attributes.specs.Table.{ACT, BDT, CLM, CLU, DKG, IUT, KCV, KEN, KRN, KSL, KTC, SBM, SGC, ULM, VND, table}
+use Rattle.card_stored.specs.Stored.{isStored}
+use Rattle.text_patterns.specs.Patterns.{fits}
+use Rattle.text_patterns.proofs.PatternLaws.{fits-append, fits-length}
 use Rattle.card_places.specs.Places.{startsWith, after, afterAll, afterFitting, isLong, isClear}
 use Rattle.card_places.proofs.EntryPlaces.{starts-front}
 use Rattle.card_places.proofs.Shapes.{Told, noMore, stampShape, isPlain, digits-told, hex-told, number-told, from-zero-told, algorithm-told, stamp-told, name-fits}

@@ -9,16 +9,16 @@ use lib.Dec.{eqb, leb}
 use lib.ListN.{length, getD, take, drop, length-drop, take-append-drop}
 use lib.Seq.{drop-drop, getD-drop, length-take-le, take-take}
 use borrow.Author.Tests.{le-leb, not-true, not-false}
-use Rattle.octets.specs.Strings.{run, allOf}
-use Rattle.octets.proofs.Flags.{nope, and-second, and-both}
-use Rattle.octets.proofs.StringLaws.{all-run, run-le, run-stopped, run-turn}
-use Rattle.text.specs.Classes.{isOf, areAll}
-use Rattle.text.specs.declared.Class.the-variants.{Digit}
-use Rattle.decimals.specs.Decimals.{decimal, isUnpadded, isNumber}
-use Rattle.decimals.proofs.NumberLaws.{number-short, number-digits}
-use Rattle.forms.specs.declared.Form.the-variants.{Number}
-use Rattle.cards.specs.Entries.{entryLength, nameOf}
-use Rattle.stored_cards.proofs.Runs.{run-all}
+use Rattle.byte_strings.specs.Strings.{run, allOf}
+use Rattle.byte_strings.proofs.Flags.{nope, and-second, and-both}
+use Rattle.byte_strings.proofs.StringLaws.{all-run, run-le, run-stopped, run-turn}
+use Rattle.text_classes.specs.Classes.{isOf, areAll}
+use Rattle.text_classes.specs.declared.Class.the-variants.{Digit}
+use Rattle.text_decimals.specs.Decimals.{decimal, isUnpadded, isNumber}
+use Rattle.text_decimals.proofs.NumberLaws.{number-short, number-digits}
+use Rattle.text_forms.specs.declared.Form.the-variants.{Number}
+use Rattle.card_entries.specs.Entries.{entryLength, nameOf}
+use Rattle.card_stored.proofs.Runs.{run-all}
 use Rattle.card_places.specs.Places.{startsWith, after}
 use Rattle.card_places.proofs.EntryPlaces.{Framed, starts-three, starts-framed, behind, framed-long, framed-entry}
 use Rattle.card_places.proofs.Stands.{stands, stands-not}

@@ -8,12 +8,12 @@ use lib.Dec.{T}
 use lib.ListN.{length, getD, take, drop, length-drop, length-append}
 use lib.Seq.{drop-drop, length-take-le, getD-drop}
 use borrow.Author.Tests.{eqb-true}
-use Rattle.octets.proofs.Flags.{nope, and-first, and-second, and-both, both-ways}
-use Rattle.forms.specs.Forms.{inForm}
-use Rattle.forms.specs.declared.Form.{Form}
-use Rattle.cards.specs.Entries.{entryLength, nameBytes}
-use Rattle.patterns.specs.Patterns.{fitsByte, fits}
-use Rattle.patterns.proofs.PatternLaws.{fits-itself, fits-front, fits-append, fits-length}
+use Rattle.byte_strings.proofs.Flags.{nope, and-first, and-second, and-both, both-ways}
+use Rattle.text_forms.specs.Forms.{inForm}
+use Rattle.text_forms.specs.declared.Form.{Form}
+use Rattle.card_entries.specs.Entries.{entryLength, nameBytes}
+use Rattle.text_patterns.specs.Patterns.{fitsByte, fits}
+use Rattle.text_patterns.proofs.PatternLaws.{fits-itself, fits-front, fits-append, fits-length}
 use Rattle.card_places.specs.Places.{startsWith, after, isLong}
 use Rattle.card_places.proofs.EntryPlaces.{Framed, behind, framed-entry, entry-long, entry-framed}
 use Rattle.card_places.proofs.Shapes.{Told, isPlain, plain-some, name-fits, fits-name}

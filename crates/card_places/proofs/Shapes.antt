@@ -9,22 +9,22 @@ use lib.Dec.{T, eqb, leb}
 use lib.ListN.{length, getD, take, drop, replicate, length-replicate, length-drop}
 use lib.Seq.{drop-cons, drop-drop, length-take-le}
 use borrow.Author.Tests.{eq-eqb, le-leb, lt-leb, leb-true, eqb-true, not-true}
-use Rattle.octets.specs.Texts.{text}
-use Rattle.octets.specs.Strings.{allOf}
-use Rattle.octets.proofs.Flags.{and-first, and-second, and-both, or-cases, both-ways, yes}
-use Rattle.text.specs.Classes.{within, isOf, areAll}
-use Rattle.text.specs.declared.Class.the-variants.{Capital, Digit, Hexadecimal}
-use Rattle.decimals.specs.Decimals.{decimal, isUnpadded, isNumber}
-use Rattle.timestamp.specs.Timestamps.{isTimestamp}
-use Rattle.timestamp.proofs.Plain.{timestamp-length, timestamp-date, timestamp-time, timestamp-t, timestamp-z}
-use Rattle.forms.specs.Forms.{isAlgorithm, inForm}
-use Rattle.forms.proofs.FormBounds.{algorithm-is}
-use Rattle.forms.specs.declared.Form.{Form}
-use Rattle.forms.specs.declared.Form.the-variants.{Timestamp, Algorithm, Number, Digits, Hex}
-use Rattle.cards.specs.Entries.{nameOf, nameBytes}
-use Rattle.cards.proofs.EntryLaws.{name-length}
-use Rattle.patterns.specs.Patterns.{fitsByte, fits}
-use Rattle.patterns.proofs.PatternLaws.{fits-smaller, fits-digit, fits-hexadecimal, fits-itself, fits-class, fits-front, fits-append, fits-length}
+use Rattle.byte_strings.specs.Texts.{text}
+use Rattle.byte_strings.specs.Strings.{allOf}
+use Rattle.byte_strings.proofs.Flags.{and-first, and-second, and-both, or-cases, both-ways, yes}
+use Rattle.text_classes.specs.Classes.{within, isOf, areAll}
+use Rattle.text_classes.specs.declared.Class.the-variants.{Capital, Digit, Hexadecimal}
+use Rattle.text_decimals.specs.Decimals.{decimal, isUnpadded, isNumber}
+use Rattle.text_timestamps.specs.Timestamps.{isTimestamp}
+use Rattle.text_timestamps.proofs.Plain.{timestamp-length, timestamp-date, timestamp-time, timestamp-t, timestamp-z}
+use Rattle.text_forms.specs.Forms.{isAlgorithm, inForm}
+use Rattle.text_forms.proofs.FormBounds.{algorithm-is}
+use Rattle.text_forms.specs.declared.Form.{Form}
+use Rattle.text_forms.specs.declared.Form.the-variants.{Timestamp, Algorithm, Number, Digits, Hex}
+use Rattle.card_entries.specs.Entries.{nameOf, nameBytes}
+use Rattle.card_entries.proofs.EntryLaws.{name-length}
+use Rattle.text_patterns.specs.Patterns.{fitsByte, fits}
+use Rattle.text_patterns.proofs.PatternLaws.{fits-smaller, fits-digit, fits-hexadecimal, fits-itself, fits-class, fits-front, fits-append, fits-length}
 
 -- a value that is as long as the shape is in form where it fits the shape and passes the test
 abbrev pub Told : Form → List ℕ → (List ℕ → Bool) → Type 0

@@ -8,19 +8,19 @@ use lib.Dec.{ltb, leb}
 use lib.ListN.{length, take, drop, length-drop, drop-of-length-le}
 use lib.Seq.{drop-drop}
 use borrow.Author.Tests.{eq-eqb, ne-eqb, le-leb, lt-leb, le-ltb, lt-ltb, not-true, not-false}
-use Rattle.octets.specs.Strings.{run, isNot}
-use Rattle.octets.proofs.StringLaws.{rest}
-use Rattle.pieces.proofs.PieceLaws.{run-here}
-use Rattle.text.specs.Classes.{areAll}
-use Rattle.text.specs.declared.Class.the-variants.{Zero}
-use Rattle.forms.specs.Forms.{inForm}
-use Rattle.forms.specs.declared.Form.{Form}
-use Rattle.cards.specs.Entries.{entryLength, nameOf}
-use Rattle.cards.proofs.EntryLaws.{name-room, value-here}
-use Rattle.attributes.specs.Table.{table, name, form}
-use Rattle.attributes.specs.declared.Attribute.{Attribute}
-use Rattle.stored_cards.specs.Stored.{isEntryOf, isStored}
-use Rattle.stored_cards.proofs.Sequence.{isStoredFrom, stored-by-entries}
+use Rattle.byte_strings.specs.Strings.{run, isNot}
+use Rattle.byte_strings.proofs.StringLaws.{rest}
+use Rattle.byte_pieces.proofs.PieceLaws.{run-here}
+use Rattle.text_classes.specs.Classes.{areAll}
+use Rattle.text_classes.specs.declared.Class.the-variants.{Zero}
+use Rattle.text_forms.specs.Forms.{inForm}
+use Rattle.text_forms.specs.declared.Form.{Form}
+use Rattle.card_entries.specs.Entries.{entryLength, nameOf}
+use Rattle.card_entries.proofs.EntryLaws.{name-room, value-here}
+use Rattle.card_attributes.specs.Table.{table, name, form}
+use Rattle.card_attributes.specs.declared.Attribute.{Attribute}
+use Rattle.card_stored.specs.Stored.{isEntryOf, isStored}
+use Rattle.card_stored.proofs.Sequence.{isStoredFrom, stored-by-entries}
 use Rattle.card_places.specs.Places.{startsWith, after, afterAll, isClear}
 use Rattle.card_places.proofs.EntryPlaces.{starts-short}
 

@@ -9,20 +9,20 @@ use lib.Dec.{T, eqb}
 use lib.ListN.{length, take, drop, length-drop}
 use lib.Seq.{drop-drop, length-take-le, take-all}
 use borrow.Author.Tests.{eq-eqb}
-use Rattle.octets.proofs.Flags.{and-first, and-second, and-left, and-right, no}
-use Rattle.octets.proofs.StringLaws.{drop-take}
-use Rattle.pieces.specs.Pieces.{pieces}
-use Rattle.pieces.proofs.PieceLaws.{pieces-first}
-use Rattle.forms.specs.declared.Form.{Form}
-use Rattle.forms.specs.declared.Form.the-variants.{Number, Digits, Name}
-use Rattle.cards.specs.Entries.{entryLength, valueIn, valueOf, orElse}
-use Rattle.cards.proofs.EntryLaws.{a-name}
-use Rattle.attributes.specs.Table.{KRN, KSL, SGC, table, name, form}
-use Rattle.attributes.specs.declared.Attribute.{Attribute}
-use Rattle.attributes.specs.declared.Presence.the-variants.{Required, Engine}
-use Rattle.attributes.proofs.TableLaws.{allRows}
-use Rattle.stored_cards.specs.Stored.{isStored}
-use Rattle.stored_cards.proofs.Sequence.{isStoredFrom, stored-walk}
+use Rattle.byte_strings.proofs.Flags.{and-first, and-second, and-left, and-right, no}
+use Rattle.byte_strings.proofs.StringLaws.{drop-take}
+use Rattle.byte_pieces.specs.Pieces.{pieces}
+use Rattle.byte_pieces.proofs.PieceLaws.{pieces-first}
+use Rattle.text_forms.specs.declared.Form.{Form}
+use Rattle.text_forms.specs.declared.Form.the-variants.{Number, Digits, Name}
+use Rattle.card_entries.specs.Entries.{entryLength, valueIn, valueOf, orElse}
+use Rattle.card_entries.proofs.EntryLaws.{a-name}
+use Rattle.card_attributes.specs.Table.{KRN, KSL, SGC, table, name, form}
+use Rattle.card_attributes.specs.declared.Attribute.{Attribute}
+use Rattle.card_attributes.specs.declared.Presence.the-variants.{Required, Engine}
+use Rattle.card_attributes.proofs.TableLaws.{allRows}
+use Rattle.card_stored.specs.Stored.{isStored}
+use Rattle.card_stored.proofs.Sequence.{isStoredFrom, stored-walk}
 use Rattle.card_places.specs.Places.{startsWith, after, afterAll, isLong}
 use Rattle.card_places.proofs.EntryPlaces.{starts-short, starts-named, starts-three, entry-long}
 use Rattle.card_places.proofs.Stands.{stands, stands-within, first-entry, first-stands}

@@ -5,16 +5,16 @@ use mathlib.Core.Bool.{Bool, cond, _&&_, false}
 use mathlib.Core.List.{List, [], _∷_}
 use lib.Dec.{eqb, leb, ltb}
 use lib.ListN.{length, take, drop}
-use Rattle.octets.specs.Texts.{all}
-use Rattle.text.specs.Classes.{areAll}
-use Rattle.text.specs.declared.Class.the-variants.{Zero}
-use Rattle.forms.specs.Forms.{inForm}
-use Rattle.forms.specs.declared.Form.{Form}
-use Rattle.forms.specs.declared.Form.the-variants.{Timestamp, Algorithm, Number, Digits, Hex, HexSome, Name, Empty}
-use Rattle.cards.specs.Entries.{entryLength, nameOf}
-use Rattle.attributes.specs.Table.{name, form}
-use Rattle.attributes.specs.declared.Attribute.{Attribute}
-use Rattle.patterns.specs.Patterns.{fits}
+use Rattle.byte_strings.specs.Texts.{all}
+use Rattle.text_classes.specs.Classes.{areAll}
+use Rattle.text_classes.specs.declared.Class.the-variants.{Zero}
+use Rattle.text_forms.specs.Forms.{inForm}
+use Rattle.text_forms.specs.declared.Form.{Form}
+use Rattle.text_forms.specs.declared.Form.the-variants.{Timestamp, Algorithm, Number, Digits, Hex, HexSome, Name, Empty}
+use Rattle.card_entries.specs.Entries.{entryLength, nameOf}
+use Rattle.card_attributes.specs.Table.{name, form}
+use Rattle.card_attributes.specs.declared.Attribute.{Attribute}
+use Rattle.text_patterns.specs.Patterns.{fits}
 
 -- s starts with an entry of the name, its value in form
 unfoldable pub startsWith : ℕ → Form → List ℕ → Bool

@@ -1,24 +1,24 @@
 // A card as stored, read once: whether it is one, and where the values stand that question 3 compares (document 01,
 // Cards and question 3). Most values have one length, so that most bytes stand at known places and are compared with a
 // pattern: a digit for itself and the smaller ones, F for every hexadecimal digit, any other byte for itself.
-use attributes::KEN;
-use attributes::KSL;
-use attributes::ULM;
-use attributes::VND;
-use forms::Form;
-use text::Class;
+use card_attributes::KEN;
+use card_attributes::KSL;
+use card_attributes::ULM;
+use card_attributes::VND;
+use text_classes::Class;
+use text_forms::Form;
 ghost use mathlib.Core.Path.{_≡_};
 ghost use mathlib.Core.Bool.{true};
 ghost use mathlib.Core.Logic.{_⊎_};
 ghost use Prim.Native.Nat.{_+_, _≤_, _<_};
 ghost use lib.ListN.{length, take};
-ghost use Rattle.octets.specs.Strings.{run};
-ghost use Rattle.text.specs.Classes.{isOf, areAll};
-ghost use Rattle.text.specs.declared.Class.the-variants.{Digit};
-ghost use Rattle.decimals.specs.Decimals.{isNumber};
-ghost use Rattle.forms.specs.declared.Form.the-variants.{Number};
-ghost use Rattle.attributes.specs.Table.{KEN, KRN, table};
-ghost use Rattle.stored_cards.specs.Stored.{isStored};
+ghost use Rattle.byte_strings.specs.Strings.{run};
+ghost use Rattle.text_classes.specs.Classes.{isOf, areAll};
+ghost use Rattle.text_classes.specs.declared.Class.the-variants.{Digit};
+ghost use Rattle.text_decimals.specs.Decimals.{isNumber};
+ghost use Rattle.text_forms.specs.declared.Form.the-variants.{Number};
+ghost use Rattle.card_attributes.specs.Table.{KEN, KRN, table};
+ghost use Rattle.card_stored.specs.Stored.{isStored};
 ghost use Rattle.card_places.specs.Places.{after, afterAll, afterFitting, isClear};
 
 // The place after entries whose values have one length, told by a pattern.
@@ -30,7 +30,7 @@ fn after_fitting(s: &[u8], at: usize, pattern: &[u8]) -> usize
     if s.len() < at + pattern.len() {
         return s.len() + 1;
     }
-    if !patterns::fits(s, at, pattern) {
+    if !text_patterns::fits(s, at, pattern) {
         return s.len() + 1;
     }
     at + pattern.len()
@@ -61,15 +61,15 @@ fn after_any(s: &[u8], at: usize, name: u32, form: Form) -> usize
     if s.len() < at {
         return s.len() + 1;
     }
-    let end = pieces::piece_end(s, at, b';');
+    let end = byte_pieces::piece_end(s, at, b';');
     if s.len() <= end {
         return s.len() + 1;
     }
-    if cards::name_of(&s[at..end]) != name {
+    if card_entries::name_of(&s[at..end]) != name {
         return s.len() + 1;
     }
     let start = at + 3;
-    if !forms::in_form(form, &s[start..end]) {
+    if !text_forms::in_form(form, &s[start..end]) {
         return s.len() + 1;
     }
     end + 1
@@ -82,7 +82,7 @@ fn digit_count(v: &[u8]) -> usize
 {
     let mut i = 0;
     while i < v.len() {
-        if !text::is_of(Class::Digit, v[i]) {
+        if !text_classes::is_of(Class::Digit, v[i]) {
             return i;
         }
         i += 1;
@@ -111,7 +111,7 @@ fn is_number(v: &[u8], digits: usize, high: u64) -> bool
     if (v.len() != 1) & (v[0] == b'0') {
         return false;
     }
-    decimals::decimal(v) <= high
+    text_decimals::decimal(v) <= high
 }
 
 // The place after an entry whose value is a number up to high, of at most so many digits. No semicolon is looked
@@ -124,7 +124,7 @@ fn after_number(s: &[u8], at: usize, name: u32, digits: usize, high: u64) -> usi
     if s.len() < at + 3 {
         return s.len() + 1;
     }
-    if cards::name_of(&s[at..at + 3]) != name {
+    if card_entries::name_of(&s[at..at + 3]) != name {
         return s.len() + 1;
     }
     let start = at + 3;
@@ -151,23 +151,23 @@ fn after_first(s: &[u8]) -> usize
     if s.len() < 96 {
         return s.len() + 1;
     }
-    if !patterns::fits(
+    if !text_patterns::fits(
         s,
         0,
         b"ACT99999999T999999Z;BDT99999999T999999Z;CLMFFFFFFFF;CLU0;DKG04;IUT99999999T999999Z;KCVFFFFFF;KEN",
     ) {
         return s.len() + 1;
     }
-    if !forms::in_form(Form::Timestamp, &s[3..19]) {
+    if !text_forms::in_form(Form::Timestamp, &s[3..19]) {
         return s.len() + 1;
     }
-    if !forms::in_form(Form::Timestamp, &s[23..39]) {
+    if !text_forms::in_form(Form::Timestamp, &s[23..39]) {
         return s.len() + 1;
     }
-    if !forms::in_form(Form::Algorithm, &s[60..62]) {
+    if !text_forms::in_form(Form::Algorithm, &s[60..62]) {
         return s.len() + 1;
     }
-    if !forms::in_form(Form::Timestamp, &s[66..82]) {
+    if !text_forms::in_form(Form::Timestamp, &s[66..82]) {
         return s.len() + 1;
     }
     93
@@ -183,7 +183,7 @@ fn is_clear(s: &[u8], at: usize) -> bool
     if s.len() < at {
         return false;
     }
-    text::are_zeros(&s[at..])
+    text_classes::are_zeros(&s[at..])
 }
 
 // Whether a card is one as stored; where the entries of KRN and KSL, the one after KSL, and that of SGC stand in it.

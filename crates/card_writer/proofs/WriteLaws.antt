@@ -6,15 +6,15 @@ use native.Mathlib.Omega.{arith}
 use lib.ListN.{length, drop, replicate, length-append, length-replicate}
 use lib.Seq.{sets}
 use borrow.Author.Tests.{ne-eqb}
-use Rattle.octets.specs.Wrote.{Wrote}
-use Rattle.octets.proofs.Writes.{then, from-start, sets-append}
-use Rattle.cards.specs.Entries.{nameBytes, entryBytes, valueOr}
-use Rattle.attributes.specs.Table.{CLU, KCV, KSL, VND, table, rows, name}
-use Rattle.stored_cards.specs.Stored.{EngineValues, inRow, cardBytes, storedValue, defaultCard}
-use Rattle.attributes.specs.declared.Attribute.{Attribute}
+use Rattle.byte_strings.specs.Wrote.{Wrote}
+use Rattle.byte_strings.proofs.Writes.{then, from-start, sets-append}
+use Rattle.card_entries.specs.Entries.{nameBytes, entryBytes, valueOr}
+use Rattle.card_attributes.specs.Table.{CLU, KCV, KSL, VND, table, rows, name}
+use Rattle.card_stored.specs.Stored.{EngineValues, inRow, cardBytes, storedValue, defaultCard}
+use Rattle.card_attributes.specs.declared.Attribute.{Attribute}
 use Rattle.card_writer.proofs.ListLaws.{drop-replicate}
-use Rattle.attributes.proofs.TableLaws.{table-end}
-use Rattle.cards.proofs.EntryLaws.{entry-length}
+use Rattle.card_attributes.proofs.TableLaws.{table-end}
+use Rattle.card_entries.proofs.EntryLaws.{entry-length}
 
 -- put_entry
 pub entry-written : {d e f g v : List ℕ} {a b c r : ℕ} (n : ℕ) → Wrote d a (nameBytes n) e b → Wrote e b v f c → Wrote f c (59 ∷ []) g r → Wrote d a (entryBytes n v) g r

@@ -1,15 +1,15 @@
 // Writes the stored card, which has all fifteen attributes, from an incoming one (document 01, Cards).
-use attributes::CLU;
-use attributes::KCV;
-use attributes::KSL;
-use attributes::ROWS;
-use attributes::VND;
+use card_attributes::CLU;
+use card_attributes::KCV;
+use card_attributes::KSL;
+use card_attributes::ROWS;
+use card_attributes::VND;
 ghost use mathlib.Core.Path.{_≡_};
 ghost use Prim.Native.Nat.{_+_, _≤_, _<_};
 ghost use lib.ListN.{length};
-ghost use Rattle.octets.specs.Wrote.{Writes};
-ghost use Rattle.cards.specs.Entries.{entryBytes};
-ghost use Rattle.stored_cards.specs.Stored.{defaultCard, storedValue, storedCard, inRow};
+ghost use Rattle.byte_strings.specs.Wrote.{Writes};
+ghost use Rattle.card_entries.specs.Entries.{entryBytes};
+ghost use Rattle.card_stored.specs.Stored.{defaultCard, storedValue, storedCard, inRow};
 
 // Writes an entry.
 fn put_entry(dst: &mut [u8], at: usize, name: u32, v: &[u8]) -> usize
@@ -21,9 +21,9 @@ fn put_entry(dst: &mut [u8], at: usize, name: u32, v: &[u8]) -> usize
         (name / 256 % 256) as u8,
         (name % 256) as u8,
     ];
-    let a = octets::put(dst, at, &n);
-    let b = octets::put(dst, a, v);
-    octets::put_byte(dst, b, b';')
+    let a = byte_strings::put(dst, at, &n);
+    let b = byte_strings::put(dst, a, v);
+    byte_strings::put_byte(dst, b, b';')
 }
 
 // The value that is stored under a name: the engine's own, else the incoming card's, else the default card's.
@@ -58,7 +58,7 @@ fn stored_value<'a>(
     if name == VND {
         return vnd;
     }
-    cards::value_or(card, default, name)
+    card_entries::value_or(card, default, name)
 }
 
 // Writes the stored card from the start on.
@@ -84,7 +84,7 @@ fn put_card<'a>(
     let mut at = 0;
     let mut k = 0;
     while k < ROWS {
-        let a = attributes::row(k);
+        let a = card_attributes::row(k);
         let name = a.0;
         let v = stored_value(name, card, default, clu, kcv, ksl, vnd);
         at = put_entry(dst, at, name, v);

@@ -18,8 +18,13 @@ fn take_line(s: Session) -> Session {
     let p = s.pending;
     let bytes = p.bytes;
     let n = p.length;
-    let stepped = console_steps::step(s.console, s.number, octets::front(&bytes, n), &mut out);
-    io::write_all(STDOUT_FILENO, octets::front(&out, stepped.length));
+    let stepped = console_steps::step(
+        s.console,
+        s.number,
+        byte_strings::front(&bytes, n),
+        &mut out,
+    );
+    io::write_all(STDOUT_FILENO, byte_strings::front(&out, stepped.length));
     let console = stepped.console;
     Session {
         console,
@@ -40,7 +45,7 @@ fn take_lines(s: Session, read: &[u8]) -> Session {
     let mut t = s;
     let mut at = 0;
     while at < read.len() {
-        let e = pieces::piece_end(read, at, b'\n');
+        let e = byte_pieces::piece_end(read, at, b'\n');
         t = add(t, &read[at..e]);
         if e < read.len() {
             t = take_line(t);

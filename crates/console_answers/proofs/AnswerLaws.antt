@@ -6,9 +6,9 @@ use Prim.Native.Nat.{ℕ, _-_}
 use native.Mathlib.Nat.{sub-zero}
 use lib.ListN.{length, take}
 use borrow.Author.Tests.{ne-eqb}
-use Rattle.octets.specs.Texts.{text}
-use Rattle.octets.specs.Wrote.{Wrote}
-use Rattle.decimal_writer.specs.Digits.{decimalBytes, longBytes}
+use Rattle.byte_strings.specs.Texts.{text}
+use Rattle.byte_strings.specs.Wrote.{Wrote}
+use Rattle.text_decimal_writer.specs.Digits.{decimalBytes, longBytes}
 use Rattle.console_prints.proofs.PrintLaws.{last, word, line-written}
 use Rattle.console_states.specs.States.{stateName}
 use Rattle.console_answers.specs.Answers.{replyText, answerLine, usableLine, otherLine}

@@ -4,8 +4,8 @@ use mathlib.Core.Bool.{Bool, cond}
 use mathlib.Core.List.{List, [], _∷_}
 use lib.Dec.{eqb}
 use lib.ListN.{length, take}
-use Rattle.octets.specs.Texts.{text}
-use Rattle.decimal_writer.specs.Digits.{decimalBytes, longBytes}
+use Rattle.byte_strings.specs.Texts.{text}
+use Rattle.text_decimal_writer.specs.Digits.{decimalBytes, longBytes}
 use Rattle.console_prints.specs.Prints.{lineBytes}
 use Rattle.console_states.specs.States.{stateName}
 

@@ -2,8 +2,8 @@
 ghost use mathlib.Core.List.{_++_};
 ghost use Prim.Native.Nat.{_+_, _≤_};
 ghost use lib.ListN.{length};
-ghost use Rattle.octets.specs.Texts.{text};
-ghost use Rattle.octets.specs.Wrote.{Writes};
+ghost use Rattle.byte_strings.specs.Texts.{text};
+ghost use Rattle.byte_strings.specs.Wrote.{Writes};
 ghost use Rattle.console_answers.specs.Answers.{replyText, answerLine, usableLine, otherLine};
 
 // Writes a response without its carriage return, or - for none, and a line feed.

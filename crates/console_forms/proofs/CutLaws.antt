@@ -3,8 +3,8 @@ use mathlib.Core.Path.{_≡_}
 use mathlib.Core.Bool.{Bool}
 use mathlib.Core.List.{List}
 use Prim.Native.Nat.{ℕ}
-use Rattle.decimals.specs.Decimals.{isNumber}
-use Rattle.identities.proofs.Chain.{form-of}
+use Rattle.text_decimals.specs.Decimals.{isNumber}
+use Rattle.record_identities.proofs.Chain.{form-of}
 use Rattle.console_words.specs.Words.{word, rest}
 use Rattle.console_forms.specs.LineForms.{isSlotRow}
 

@@ -3,10 +3,10 @@
 use Prim.Native.Nat.{ℕ}
 use mathlib.Core.Bool.{Bool}
 use mathlib.Core.List.{List, [], _∷_}
-use Rattle.octets.specs.Texts.{all}
-use Rattle.decimals.specs.Decimals.{isNumber}
-use Rattle.forms.specs.Forms.{inForm}
-use Rattle.forms.specs.declared.Form.the-variants.{Hex}
+use Rattle.byte_strings.specs.Texts.{all}
+use Rattle.text_decimals.specs.Decimals.{isNumber}
+use Rattle.text_forms.specs.Forms.{inForm}
+use Rattle.text_forms.specs.declared.Form.the-variants.{Hex}
 use Rattle.console_words.specs.Words.{word, rest}
 
 -- tables S R

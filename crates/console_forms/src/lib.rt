@@ -1,32 +1,32 @@
 // Whether what stands after the first word of a line of the console is in the form of that line (docs/CONSOLE.md), of
 // the lines that have more than one word there.
-use forms::Form;
+use text_forms::Form;
 ghost use mathlib.Core.Path.{_≡_};
 ghost use Rattle.console_forms.specs.LineForms.{areTables, isSlotRow, isSlot, isRegister};
 
 pub fn are_tables(rest: &[u8]) -> bool
     ensures { λ a. ⌜ a ≡ areTables (now (rest .entry)) ⌝ }
 {
-    if !decimals::is_number(1, 0, 9, console_words::word(rest)) {
+    if !text_decimals::is_number(1, 0, 9, console_words::word(rest)) {
         return false;
     }
-    decimals::is_number(2, 0, 33, console_words::rest(rest))
+    text_decimals::is_number(2, 0, 33, console_words::rest(rest))
 }
 
 // Whether the three words of digits are those of a slot row.
 fn is_slot_row(digits: &[u8]) -> bool
     ensures { λ a. ⌜ a ≡ isSlotRow (now (digits .entry)) ⌝ }
 {
-    if !forms::in_form(Form::Hex(80), console_words::word(digits)) {
+    if !text_forms::in_form(Form::Hex(80), console_words::word(digits)) {
         return false;
     }
-    if !forms::in_form(
+    if !text_forms::in_form(
         Form::Hex(32),
         console_words::word(console_words::rest(digits)),
     ) {
         return false;
     }
-    forms::in_form(
+    text_forms::in_form(
         Form::Hex(32),
         console_words::rest(console_words::rest(digits)),
     )
@@ -35,10 +35,10 @@ fn is_slot_row(digits: &[u8]) -> bool
 pub fn is_slot(rest: &[u8]) -> bool
     ensures { λ a. ⌜ a ≡ isSlot (now (rest .entry)) ⌝ }
 {
-    if !decimals::is_number(1, 1, 8, console_words::word(rest)) {
+    if !text_decimals::is_number(1, 1, 8, console_words::word(rest)) {
         return false;
     }
-    if !decimals::is_number(3, 0, 255, console_words::word(console_words::rest(rest))) {
+    if !text_decimals::is_number(3, 0, 255, console_words::word(console_words::rest(rest))) {
         return false;
     }
     is_slot_row(console_words::rest(console_words::rest(rest)))
@@ -47,8 +47,8 @@ pub fn is_slot(rest: &[u8]) -> bool
 pub fn is_register(rest: &[u8]) -> bool
     ensures { λ a. ⌜ a ≡ isRegister (now (rest .entry)) ⌝ }
 {
-    if !decimals::is_number(2, 1, 32, console_words::word(rest)) {
+    if !text_decimals::is_number(2, 1, 32, console_words::word(rest)) {
         return false;
     }
-    forms::in_form(Form::Hex(512), console_words::rest(rest))
+    text_forms::in_form(Form::Hex(512), console_words::rest(rest))
 }

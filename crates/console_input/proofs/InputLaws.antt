@@ -7,7 +7,7 @@ use lib.Dec.{eqb}
 use lib.ListN.{length, take, drop, length-append}
 use lib.Seq.{sets-eq, take-all, take-at, take-append-add, length-take-le}
 use borrow.Author.Tests.{eq-eqb, ne-eqb}
-use Rattle.octets.specs.Wrote.{Wrote}
+use Rattle.byte_strings.specs.Wrote.{Wrote}
 use Rattle.console_input.specs.Input.{nextNumber}
 
 -- added: n bytes so far

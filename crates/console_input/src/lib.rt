@@ -30,8 +30,8 @@ pub fn added(pending: Pending, more: &[u8]) -> Pending
     if 4097 < pending.length {
         return pending;
     }
-    let fits = octets::front(more, 4097 - pending.length);
-    let length = octets::put(&mut bytes, pending.length, fits);
+    let fits = byte_strings::front(more, 4097 - pending.length);
+    let length = byte_strings::put(&mut bytes, pending.length, fits);
     Pending { bytes, length }
 }
 

@@ -9,12 +9,12 @@ use lib.ListN.{length, getD}
 use types.Run.{OneOf, miss}
 use denote.Enum.Declared.{tagOf}
 use borrow.Author.Tests.{le-leb, lt-leb, le-ltb, lt-ltb, eq-eqb, ne-eqb, not-true, not-false}
-use Rattle.octets.specs.Texts.{text}
-use Rattle.octets.specs.Strings.{sameBytes}
-use Rattle.octets.proofs.Flags.{and-first, and-second}
-use Rattle.decimals.specs.Decimals.{decimal, isNumber}
-use Rattle.decimals.proofs.NumberLaws.{number-short, number-most, number-least}
-use Rattle.fields.specs.Values.{isOctets}
+use Rattle.byte_strings.specs.Texts.{text}
+use Rattle.byte_strings.specs.Strings.{sameBytes}
+use Rattle.byte_strings.proofs.Flags.{and-first, and-second}
+use Rattle.text_decimals.specs.Decimals.{decimal, isNumber}
+use Rattle.text_decimals.proofs.NumberLaws.{number-short, number-most, number-least}
+use Rattle.field_values.specs.Values.{isOctets}
 use Rattle.console_words.specs.Words.{word, rest, hasRest}
 use Rattle.console_forms.specs.LineForms.{areTables, isSlotRow, isSlot, isRegister}
 use Rattle.console_verbs.specs.Verbs.{verbOf}

@@ -6,10 +6,10 @@ use mathlib.Core.Bool.{cond}
 use mathlib.Core.List.{List, [], _∷_}
 use lib.Dec.{eqb, ltb, leb}
 use lib.ListN.{length, getD}
-use Rattle.octets.specs.Texts.{text, all}
-use Rattle.octets.specs.Strings.{sameBytes}
-use Rattle.decimals.specs.Decimals.{decimal, isNumber}
-use Rattle.fields.specs.Values.{isOctets}
+use Rattle.byte_strings.specs.Texts.{text, all}
+use Rattle.byte_strings.specs.Strings.{sameBytes}
+use Rattle.text_decimals.specs.Decimals.{decimal, isNumber}
+use Rattle.field_values.specs.Values.{isOctets}
 use Rattle.console_words.specs.Words.{word, rest, hasRest}
 use Rattle.console_forms.specs.LineForms.{areTables, isSlot, isRegister}
 use Rattle.console_verbs.specs.Verbs.{verbOf}

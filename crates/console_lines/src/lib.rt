@@ -36,18 +36,18 @@ fn tables_line(r: &[u8]) -> Line
         return Line::Other;
     }
     Line::Tables {
-        slot_count: decimals::decimal(console_words::word(r)) as usize,
-        register_count: decimals::decimal(console_words::rest(r)) as usize,
+        slot_count: text_decimals::decimal(console_words::word(r)) as usize,
+        register_count: text_decimals::decimal(console_words::rest(r)) as usize,
     }
 }
 
 fn buffer_line(r: &[u8]) -> Line
     ensures { λ a. ⌜ a ≡ bufferLine (now (r .entry)) ⌝ }
 {
-    if !decimals::is_number(4, 0, 2048, r) {
+    if !text_decimals::is_number(4, 0, 2048, r) {
         return Line::Other;
     }
-    Line::Buffer(decimals::decimal(r) as usize)
+    Line::Buffer(text_decimals::decimal(r) as usize)
 }
 
 fn part_line(p: Part, r: &[u8]) -> Line
@@ -62,10 +62,10 @@ fn part_line(p: Part, r: &[u8]) -> Line
 fn passed_line(r: &[u8]) -> Line
     ensures { λ a. ⌜ a ≡ passedLine (now (r .entry)) ⌝ }
 {
-    if octets::same_bytes(r, b"yes") {
+    if byte_strings::same_bytes(r, b"yes") {
         return Line::Passed(1);
     }
-    if octets::same_bytes(r, b"no") {
+    if byte_strings::same_bytes(r, b"no") {
         return Line::Passed(0);
     }
     Line::Other
@@ -86,7 +86,7 @@ fn raw_line(r: &[u8]) -> Line
     if 4092 < r.len() {
         return Line::Other;
     }
-    if !fields::is_octets(r) {
+    if !field_values::is_octets(r) {
         return Line::Other;
     }
     Line::Raw
@@ -99,8 +99,8 @@ fn slot_line(r: &[u8]) -> Line
         return Line::Other;
     }
     Line::Slot {
-        row: decimals::decimal(console_words::word(r)) as usize - 1,
-        state: decimals::decimal(console_words::word(console_words::rest(r))) as u8,
+        row: text_decimals::decimal(console_words::word(r)) as usize - 1,
+        state: text_decimals::decimal(console_words::word(console_words::rest(r))) as u8,
     }
 }
 
@@ -110,16 +110,16 @@ fn register_line(r: &[u8]) -> Line
     if !console_forms::is_register(r) {
         return Line::Other;
     }
-    Line::Register(decimals::decimal(console_words::word(r)) as usize - 1)
+    Line::Register(text_decimals::decimal(console_words::word(r)) as usize - 1)
 }
 
 fn usable_line(r: &[u8]) -> Line
     ensures { λ a. ⌜ a ≡ usableLine (now (r .entry)) ⌝ }
 {
-    if !decimals::is_number(10, 0, 2147483647, r) {
+    if !text_decimals::is_number(10, 0, 2147483647, r) {
         return Line::Other;
     }
-    Line::Usable(decimals::decimal(r) as usize)
+    Line::Usable(text_decimals::decimal(r) as usize)
 }
 
 // A line of one word.

@@ -2,7 +2,7 @@
 use mathlib.Core.Path.{_≡_}
 use mathlib.Core.List.{List}
 use Prim.Native.Nat.{ℕ}
-use Rattle.octets.specs.Wrote.{Wrote}
+use Rattle.byte_strings.specs.Wrote.{Wrote}
 use Rattle.engine.specs.Outcomes.{outcomeNumber}
 use Rattle.engine.specs.declared.Outcome.{Outcome}
 use Rattle.console_answers.specs.Answers.{answerLine}

@@ -1,7 +1,7 @@
 -- The line that answers a request (docs/CONSOLE.md), by its outcome.
 use Prim.Native.Nat.{ℕ}
 use mathlib.Core.List.{List}
-use Rattle.rows.specs.Slots.{stateNumber}
+use Rattle.row_types.specs.Slots.{stateNumber}
 use Rattle.engine.specs.Outcomes.{outcomeNumber}
 use Rattle.engine.specs.declared.Outcome.{Outcome}
 use Rattle.engine.specs.declared.Outcome.the-variants.{Accepted, Done, Refused}

@@ -3,7 +3,7 @@ use engine::Outcome;
 ghost use mathlib.Core.Path.{_≡_};
 ghost use Prim.Native.Nat.{_+_, _≤_};
 ghost use lib.ListN.{length};
-ghost use Rattle.octets.specs.Wrote.{Writes};
+ghost use Rattle.byte_strings.specs.Wrote.{Writes};
 ghost use Rattle.console_outcomes.specs.Outcomes.{leftNumber, outcomeLine};
 
 // The number of the slot state that an outcome carries, or 255.
@@ -23,6 +23,6 @@ pub fn put_outcome(dst: &mut [u8], number: u64, outcome: Outcome, response: &[u8
     ensures { λ r. ⌜ Writes dst 0 (outcomeLine number outcome (now (response .entry))) r ⌝ }
     ensures fits { λ r. ⌜ r ≤ length (now (dst .entry)) ⌝ }
 {
-    let n = refusal_numbers::outcome_number(outcome);
+    let n = response_numbers::outcome_number(outcome);
     console_answers::put_answer(dst, number, n, left_number(outcome), response)
 }

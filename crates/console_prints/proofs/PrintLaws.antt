@@ -1,8 +1,8 @@
 -- A line is its words, each written with the space after it, and the last with the line feed.
 use mathlib.Core.List.{List, [], _∷_, _++_, append-assoc}
 use Prim.Native.Nat.{ℕ}
-use Rattle.octets.specs.Wrote.{Wrote}
-use Rattle.octets.proofs.Writes.{then}
+use Rattle.byte_strings.specs.Wrote.{Wrote}
+use Rattle.byte_strings.proofs.Writes.{then}
 use Rattle.console_prints.specs.Prints.{lineBytes}
 
 -- the words ws, each written with the space after it, and the last with the line feed; or the rest of the line at once

@@ -7,17 +7,17 @@ use lib.Dec.{leb}
 use lib.ListN.{length, take, drop, length-append}
 use lib.Seq.{take-at, length-take-le, take-append-seam}
 use borrow.Author.Tests.{le-leb, lt-leb}
-use Rattle.octets.specs.Wrote.{Wrote}
-use Rattle.octets.proofs.Writes.{then, take-start}
-use Rattle.frames.specs.Frames.{ending, framed}
-use Rattle.rows.specs.Places.{slotRows}
-use Rattle.rows.specs.RowReplies.{InSomeSequence}
-use Rattle.rows.specs.declared.Tables.{Tables}
-use Rattle.rows.specs.declared.Supplement.{Supplement}
+use Rattle.byte_strings.specs.Wrote.{Wrote}
+use Rattle.byte_strings.proofs.Writes.{then, take-start}
+use Rattle.message_frames.specs.Frames.{ending, framed}
+use Rattle.row_types.specs.Places.{slotRows}
+use Rattle.row_types.specs.RowReplies.{InSomeSequence}
+use Rattle.row_types.specs.declared.Tables.{Tables}
+use Rattle.row_types.specs.declared.Supplement.{Supplement}
 use Rattle.engine.specs.Answers.{Answer, response, answerOf, bufferAfter}
 use Rattle.engine.specs.Calls.{callIn, Responded, tablesAfter}
 use Rattle.engine.specs.declared.Outcome.{Outcome}
-use Rattle.hex_octets.specs.Octets.{octetsOf}
+use Rattle.console_octets.specs.Octets.{octetsOf}
 use Rattle.console_state.specs.State.{withTables}
 use Rattle.console_state.specs.declared.Console.{Console}
 use Rattle.console_outcomes.specs.Outcomes.{outcomeLine}

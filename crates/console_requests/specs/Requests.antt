@@ -3,9 +3,9 @@ use Prim.Native.Nat.{ℕ}
 use mathlib.Core.Bool.{cond}
 use mathlib.Core.List.{List}
 use lib.Dec.{leb}
-use Rattle.octets.specs.Wrote.{Wrote}
-use Rattle.rows.specs.Places.{slotRows}
-use Rattle.rows.specs.RowReplies.{InSomeSequence}
+use Rattle.byte_strings.specs.Wrote.{Wrote}
+use Rattle.row_types.specs.Places.{slotRows}
+use Rattle.row_types.specs.RowReplies.{InSomeSequence}
 use Rattle.engine.specs.Answers.{Answer, response, answerOf}
 use Rattle.engine.specs.Calls.{callIn, tablesAfter}
 use Rattle.console_state.specs.State.{withTables}

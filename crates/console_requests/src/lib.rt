@@ -3,8 +3,8 @@ use console_state::Console;
 ghost use mathlib.Core.Path.{_≡_};
 ghost use Prim.Native.Nat.{_≤_};
 ghost use lib.ListN.{length};
-ghost use Rattle.frames.specs.Frames.{framed};
-ghost use Rattle.hex_octets.specs.Octets.{octetsOf};
+ghost use Rattle.message_frames.specs.Frames.{framed};
+ghost use Rattle.console_octets.specs.Octets.{octetsOf};
 ghost use Rattle.console_requests.specs.Requests.{room, answeredBy, SaysAnswer};
 
 // The state after a line, and how many bytes were printed.
@@ -41,7 +41,7 @@ fn hand_in(console: Console, number: u64, request: &[u8], out: &mut [u8]) -> Ste
 {
     let mut response = dots();
     let n = room(console);
-    let a = core::handle(
+    let a = entry_core::handle(
         console.tables,
         console.supplement,
         request,
@@ -66,8 +66,8 @@ pub fn send(console: Console, number: u64, text: &[u8], out: &mut [u8]) -> Stepp
     ensures fits { λ s. ⌜ s .length ≤ length (now (out .entry)) ⌝ }
 {
     let mut request = dots();
-    let n = octets::put(&mut request, 0, text);
-    let m = frame_writer::close_message(&mut request, n);
+    let n = byte_strings::put(&mut request, 0, text);
+    let m = message_writer::close_message(&mut request, n);
     hand_in(console, number, &request[..m], out)
 }
 
@@ -80,6 +80,6 @@ pub fn send_octets(console: Console, number: u64, digits: &[u8], out: &mut [u8])
     ensures fits { λ s. ⌜ s .length ≤ length (now (out .entry)) ⌝ }
 {
     let mut request = dots();
-    let n = hex_octets::put_octets(&mut request, digits);
+    let n = console_octets::put_octets(&mut request, digits);
     hand_in(console, number, &request[..n], out)
 }

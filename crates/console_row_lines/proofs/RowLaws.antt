@@ -3,15 +3,15 @@ use mathlib.Core.Path.{_≡_}
 use mathlib.Core.Bool.{Bool, true, false}
 use mathlib.Core.List.{List, [], _∷_, _++_}
 use Prim.Native.Nat.{ℕ, _+_}
-use Rattle.octets.specs.Texts.{text}
-use Rattle.octets.specs.Wrote.{Wrote}
-use Rattle.octets.proofs.Writes.{none}
-use Rattle.decimal_writer.specs.Digits.{decimalBytes}
-use Rattle.hex_octets.specs.Octets.{digitsOf}
-use Rattle.rows.specs.Slots.{isZeroSlot}
-use Rattle.rows.specs.Registers.{isVacant}
-use Rattle.rows.specs.declared.SlotRow.{SlotRow}
-use Rattle.rows.specs.declared.RegisterRow.{RegisterRow}
+use Rattle.byte_strings.specs.Texts.{text}
+use Rattle.byte_strings.specs.Wrote.{Wrote}
+use Rattle.byte_strings.proofs.Writes.{none}
+use Rattle.text_decimal_writer.specs.Digits.{decimalBytes}
+use Rattle.console_octets.specs.Octets.{digitsOf}
+use Rattle.row_types.specs.Slots.{isZeroSlot}
+use Rattle.row_types.specs.Registers.{isVacant}
+use Rattle.row_types.specs.declared.SlotRow.{SlotRow}
+use Rattle.row_types.specs.declared.RegisterRow.{RegisterRow}
 use Rattle.console_prints.specs.Prints.{lineBytes}
 use Rattle.console_prints.proofs.PrintLaws.{last, rest, word, line-written}
 use Rattle.console_row_lines.specs.OneRow.{slotLine, registerLine}

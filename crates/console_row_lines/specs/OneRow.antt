@@ -2,13 +2,13 @@
 use Prim.Native.Nat.{ℕ, _+_}
 use mathlib.Core.Bool.{cond}
 use mathlib.Core.List.{List, [], _∷_}
-use Rattle.octets.specs.Texts.{text}
-use Rattle.decimal_writer.specs.Digits.{decimalBytes}
-use Rattle.hex_octets.specs.Octets.{digitsOf}
-use Rattle.rows.specs.Slots.{isZeroSlot}
-use Rattle.rows.specs.Registers.{isVacant}
-use Rattle.rows.specs.declared.SlotRow.{SlotRow}
-use Rattle.rows.specs.declared.RegisterRow.{RegisterRow}
+use Rattle.byte_strings.specs.Texts.{text}
+use Rattle.text_decimal_writer.specs.Digits.{decimalBytes}
+use Rattle.console_octets.specs.Octets.{digitsOf}
+use Rattle.row_types.specs.Slots.{isZeroSlot}
+use Rattle.row_types.specs.Registers.{isVacant}
+use Rattle.row_types.specs.declared.SlotRow.{SlotRow}
+use Rattle.row_types.specs.declared.RegisterRow.{RegisterRow}
 use Rattle.console_prints.specs.Prints.{lineBytes}
 
 -- slot K S NAME FINGERPRINT TVP; the place k counts from 0, K from 1

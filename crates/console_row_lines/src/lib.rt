@@ -1,12 +1,12 @@
 // One row as the line `rows` of the console prints it (docs/CONSOLE.md): in the form of the line that sets it.
-use rows::RegisterRow;
-use rows::SlotRow;
+use row_types::RegisterRow;
+use row_types::SlotRow;
 ghost use mathlib.Core.Path.{_≡_};
 ghost use mathlib.Core.List.{[], _∷_, _++_};
 ghost use Prim.Native.Nat.{_+_, _≤_, _<_};
 ghost use lib.ListN.{length};
-ghost use Rattle.octets.specs.Wrote.{Writes};
-ghost use Rattle.hex_octets.specs.Octets.{digitsOf};
+ghost use Rattle.byte_strings.specs.Wrote.{Writes};
+ghost use Rattle.console_octets.specs.Octets.{digitsOf};
 ghost use Rattle.console_prints.specs.Prints.{lineBytes};
 ghost use Rattle.console_row_lines.specs.OneRow.{slotLine, registerLine};
 
@@ -16,8 +16,8 @@ fn put_digits(dst: &mut [u8], at: usize, s: &[u8], after: u8) -> usize
     ensures { λ r. ⌜ Writes dst at (digitsOf (now (s .entry)) ++ (after ∷ [])) r ⌝ }
     ensures short { λ r. ⌜ r ≡ at + (length (now (s .entry)) + length (now (s .entry))) + 1 ⌝ }
 {
-    let end = hex_octets::put_digits(dst, at, s);
-    octets::put_byte(dst, end, after)
+    let end = console_octets::put_digits(dst, at, s);
+    byte_strings::put_byte(dst, end, after)
 }
 
 // The last three words of a slot row's line.

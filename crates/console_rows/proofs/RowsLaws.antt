@@ -1,9 +1,9 @@
 -- The rows are the slots, then the registers.
 use mathlib.Core.List.{List}
 use Prim.Native.Nat.{ℕ}
-use Rattle.octets.specs.Wrote.{Wrote}
-use Rattle.octets.proofs.Writes.{then}
-use Rattle.rows.specs.declared.Tables.{Tables}
+use Rattle.byte_strings.specs.Wrote.{Wrote}
+use Rattle.byte_strings.proofs.Writes.{then}
+use Rattle.row_types.specs.declared.Tables.{Tables}
 use Rattle.console_rows.specs.Rows.{slotLines, registerLines, rowLines}
 
 -- put_rows

@@ -1,10 +1,10 @@
 -- The rows in the form of the lines that set them (docs/CONSOLE.md).
 use Prim.Native.Nat.{ℕ}
 use mathlib.Core.List.{List, _++_}
-use Rattle.rows.specs.Lists.{inTurn}
-use Rattle.rows.specs.declared.SlotRow.{SlotRow}
-use Rattle.rows.specs.declared.RegisterRow.{RegisterRow}
-use Rattle.rows.specs.declared.Tables.{Tables}
+use Rattle.row_types.specs.Lists.{inTurn}
+use Rattle.row_types.specs.declared.SlotRow.{SlotRow}
+use Rattle.row_types.specs.declared.RegisterRow.{RegisterRow}
+use Rattle.row_types.specs.declared.Tables.{Tables}
 use Rattle.console_row_lines.specs.OneRow.{slotLine, registerLine}
 
 abbrev pub slotLines : List SlotRow → List ℕ

@@ -1,10 +1,10 @@
 // The rows as the line `rows` of the console prints them (docs/CONSOLE.md): each in the form of the line that sets it.
-use rows::RegisterRow;
-use rows::SlotRow;
-use rows::Tables;
+use row_types::RegisterRow;
+use row_types::SlotRow;
+use row_types::Tables;
 ghost use Prim.Native.Nat.{_+_, _≤_};
 ghost use lib.ListN.{length};
-ghost use Rattle.octets.specs.Wrote.{Writes};
+ghost use Rattle.byte_strings.specs.Wrote.{Writes};
 ghost use Rattle.console_rows.specs.Rows.{slotLines, registerLines, rowLines};
 
 fn put_slots(dst: &mut [u8], slots: [SlotRow; 8]) -> usize

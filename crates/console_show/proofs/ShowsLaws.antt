@@ -4,12 +4,12 @@ use mathlib.Core.Bool.{Bool}
 use mathlib.Core.List.{List, _∷_}
 use Prim.Native.Nat.{ℕ, _+_}
 use lib.ListN.{drop}
-use Rattle.octets.specs.Wrote.{Wrote}
-use Rattle.octets.proofs.Writes.{then}
-use Rattle.rows.specs.Lists.{inTurn}
-use Rattle.rows.proofs.WriteLoops.{Remains, turn-written}
-use Rattle.rows.specs.declared.RegisterRow.{RegisterRow}
-use Rattle.rows.specs.declared.Tables.{Tables}
+use Rattle.byte_strings.specs.Wrote.{Wrote}
+use Rattle.byte_strings.proofs.Writes.{then}
+use Rattle.row_types.specs.Lists.{inTurn}
+use Rattle.row_types.proofs.WriteLoops.{Remains, turn-written}
+use Rattle.row_types.specs.declared.RegisterRow.{RegisterRow}
+use Rattle.row_types.specs.declared.Tables.{Tables}
 use Rattle.engine.specs.Usable.{isUsable}
 use Rattle.console_shown_rows.specs.OneRow.{slotShown, registerShown, countsShown}
 use Rattle.console_show.specs.Shown.{registerIn, shownRows}

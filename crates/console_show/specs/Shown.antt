@@ -1,9 +1,9 @@
 -- The rows for people: the line `show` (docs/CONSOLE.md).
 use Prim.Native.Nat.{ℕ, _+_}
 use mathlib.Core.List.{List, _++_}
-use Rattle.rows.specs.Lists.{inTurn}
-use Rattle.rows.specs.declared.RegisterRow.{RegisterRow}
-use Rattle.rows.specs.declared.Tables.{Tables}
+use Rattle.row_types.specs.Lists.{inTurn}
+use Rattle.row_types.specs.declared.RegisterRow.{RegisterRow}
+use Rattle.row_types.specs.declared.Tables.{Tables}
 use Rattle.engine.specs.Usable.{isUsable}
 use Rattle.console_shown_rows.specs.OneRow.{slotShown, registerShown, countsShown}
 

@@ -1,11 +1,11 @@
 // The rows for people: what the line `show` of the console prints (docs/CONSOLE.md).
-use rows::RegisterRow;
-use rows::SlotRow;
-use rows::Tables;
+use row_types::RegisterRow;
+use row_types::SlotRow;
+use row_types::Tables;
 ghost use Prim.Native.Nat.{_+_, _≤_};
 ghost use lib.ListN.{length};
-ghost use Rattle.octets.specs.Wrote.{Writes};
-ghost use Rattle.rows.specs.Lists.{inTurn};
+ghost use Rattle.byte_strings.specs.Wrote.{Writes};
+ghost use Rattle.row_types.specs.Lists.{inTurn};
 ghost use Rattle.console_shown_rows.specs.OneRow.{slotShown};
 ghost use Rattle.console_show.specs.Shown.{registerIn, shownRows};
 
@@ -33,7 +33,7 @@ fn put_registers(dst: &mut [u8], at: usize, t: Tables, registers: [RegisterRow; 
     let mut i = 0;
     while i < 32 {
         let row = registers[i];
-        let yes = usable::is_usable(t, i + 1);
+        let yes = entry_usable::is_usable(t, i + 1);
         end = console_shown_rows::put_register(dst, end, i, yes, row);
         i += 1;
     }

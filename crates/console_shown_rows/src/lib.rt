@@ -1,12 +1,12 @@
 // One row for people, as the line `show` of the console prints it (docs/CONSOLE.md), and how many rows there are.
-use rows::RegisterRow;
-use rows::SlotRow;
-use rows::Tables;
+use row_types::RegisterRow;
+use row_types::SlotRow;
+use row_types::Tables;
 ghost use mathlib.Core.List.{[], _∷_, _++_};
 ghost use Prim.Native.Nat.{_+_, _≤_, _<_};
 ghost use lib.ListN.{length};
-ghost use Rattle.octets.specs.Texts.{text};
-ghost use Rattle.octets.specs.Wrote.{Writes};
+ghost use Rattle.byte_strings.specs.Texts.{text};
+ghost use Rattle.byte_strings.specs.Wrote.{Writes};
 ghost use Rattle.console_prints.specs.Prints.{lineBytes};
 ghost use Rattle.console_text.specs.Texts.{shown};
 ghost use Rattle.console_shown_rows.specs.OneRow.{usableShown, slotShown, registerShown, countsShown};

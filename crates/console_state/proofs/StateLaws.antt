@@ -6,10 +6,10 @@ use Prim.Native.Nat.{ℕ}
 use lib.Dec.{ltb}
 use types.Run.{OneOf, miss}
 use denote.Enum.Declared.{tagOf}
-use Rattle.rows.specs.declared.SlotRow.{SlotRow}
-use Rattle.rows.specs.declared.RegisterRow.{RegisterRow}
-use Rattle.rows.specs.declared.Supplement.{Supplement}
-use Rattle.rows.specs.declared.Tables.{Tables}
+use Rattle.row_types.specs.declared.SlotRow.{SlotRow}
+use Rattle.row_types.specs.declared.RegisterRow.{RegisterRow}
+use Rattle.row_types.specs.declared.Supplement.{Supplement}
+use Rattle.row_types.specs.declared.Tables.{Tables}
 use Rattle.console_words.specs.Words.{rest}
 use Rattle.console_verbs.specs.declared.Part.{Part}
 use Rattle.console_lines.specs.declared.Line.{Line}

@@ -1,7 +1,7 @@
 // The console's state (docs/CONSOLE.md), and what a line that hands nothing in does to it.
 use console_lines::Line;
-use rows::Supplement;
-use rows::Tables;
+use row_types::Supplement;
+use row_types::Tables;
 ghost use mathlib.Core.Path.{_≡_};
 ghost use Rattle.console_state.specs.State.{hasRow, checked, withTables, withSupplement, withRoom, start, setBy};
 

@@ -4,8 +4,8 @@ use mathlib.Core.List.{List, [], _∷_, _++_}
 use Prim.Native.Nat.{ℕ}
 use native.Mathlib.Omega.{arith}
 use lib.ListN.{List·getD-eq-default}
-use Rattle.octets.specs.Texts.{text}
-use Rattle.octets.specs.Wrote.{Wrote}
+use Rattle.byte_strings.specs.Texts.{text}
+use Rattle.byte_strings.specs.Wrote.{Wrote}
 use Rattle.console_states.specs.States.{names, stateName}
 
 module _ {d e : List ℕ} {a r : ℕ} (x : List ℕ) (n : ℕ) where

@@ -2,7 +2,7 @@
 use Prim.Native.Nat.{ℕ}
 use mathlib.Core.List.{List, [], _∷_}
 use lib.ListN.{getD}
-use Rattle.octets.specs.Texts.{text}
+use Rattle.byte_strings.specs.Texts.{text}
 
 -- the names of the numbers 0 to 3
 abbrev pub names : List (List ℕ)

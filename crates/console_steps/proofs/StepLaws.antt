@@ -7,11 +7,11 @@ use Prim.Native.Nat.{ℕ}
 use lib.ListN.{take}
 use types.Run.{OneOf, miss}
 use denote.Enum.Declared.{tagOf}
-use Rattle.octets.specs.Wrote.{Wrote}
-use Rattle.octets.proofs.Writes as writes
-use Rattle.frames.specs.Frames.{framed}
+use Rattle.byte_strings.specs.Wrote.{Wrote}
+use Rattle.byte_strings.proofs.Writes as writes
+use Rattle.message_frames.specs.Frames.{framed}
 use Rattle.engine.specs.Usable.{isUsable}
-use Rattle.hex_octets.specs.Octets.{octetsOf}
+use Rattle.console_octets.specs.Octets.{octetsOf}
 use Rattle.console_words.specs.Words.{rest}
 use Rattle.console_lines.specs.Lines.{lineOf}
 use Rattle.console_lines.specs.declared.Line.{Line}

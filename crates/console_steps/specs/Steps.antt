@@ -3,10 +3,10 @@ use Prim.Native.Nat.{ℕ}
 use mathlib.Core.List.{List, []}
 use mathlib.Core.Option.{Option, none, some}
 use lib.ListN.{take}
-use Rattle.octets.specs.Wrote.{Wrote}
-use Rattle.frames.specs.Frames.{framed}
+use Rattle.byte_strings.specs.Wrote.{Wrote}
+use Rattle.message_frames.specs.Frames.{framed}
 use Rattle.engine.specs.Usable.{isUsable}
-use Rattle.hex_octets.specs.Octets.{octetsOf}
+use Rattle.console_octets.specs.Octets.{octetsOf}
 use Rattle.console_lines.specs.Lines.{lineOf}
 use Rattle.console_lines.specs.declared.Line.{Line}
 use Rattle.console_lines.specs.declared.Line.the-variants as line

@@ -5,7 +5,7 @@ use console_state::Console;
 ghost use mathlib.Core.Path.{_≡_};
 ghost use Prim.Native.Nat.{_≤_};
 ghost use lib.ListN.{length};
-ghost use Rattle.octets.specs.Wrote.{Writes};
+ghost use Rattle.byte_strings.specs.Wrote.{Writes};
 ghost use Rattle.console_words.specs.Words.{rest};
 ghost use Rattle.console_steps.specs.Steps.{said, asked, after, Says};
 
@@ -18,7 +18,7 @@ fn say(console: Console, number: u64, line: Line, out: &mut [u8]) -> usize
     match line {
         Line::Rows => console_rows::put_rows(out, console.tables),
         Line::Usable(k) => {
-            let yes = usable::is_usable(console.tables, k);
+            let yes = entry_usable::is_usable(console.tables, k);
             console_answers::put_usable(out, number, yes)
         }
         Line::Show => console_show::put_show(out, console.tables),
@@ -38,8 +38,13 @@ pub fn step(console: Console, number: u64, line: &[u8], out: &mut [u8]) -> Stepp
     let asked = console_state::checked(console.tables, console_lines::line_of(line));
     let r = console_words::rest(line);
     match asked {
-        Line::Send => console_requests::send(console, number, octets::front(r, 2043), out),
-        Line::Raw => console_requests::send_octets(console, number, octets::front(r, 4092), out),
+        Line::Send => console_requests::send(console, number, byte_strings::front(r, 2043), out),
+        Line::Raw => console_requests::send_octets(
+            console,
+            number,
+            byte_strings::front(r, 4092),
+            out,
+        ),
         _ => {
             let length = say(console, number, asked, out);
             let after = console_state::set_by(console, asked, r);

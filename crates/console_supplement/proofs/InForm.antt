@@ -5,18 +5,18 @@ use mathlib.Core.List.{List}
 use Prim.Native.Nat.{ℕ}
 use lib.Dec.{eqb, leb}
 use lib.ListN.{length}
-use Rattle.crc.specs.Crc.{crcBit, crcEight, crcByte}
-use Rattle.hexadecimal.specs.Hex.{hexDigit}
-use Rattle.checksum.specs.Checksum.{sumDigits, endsInSum}
-use Rattle.text.specs.Classes.{isAlphanumeric, isMark, areAll}
-use Rattle.text.specs.Identifiers.{isIdentifier}
-use Rattle.calendar.specs.Calendar.{isLeap, daysIn, isDate, isTime}
-use Rattle.timestamp.specs.Timestamps.{isDateAndTime, isTimestamp}
-use Rattle.records.specs.Records.{bodyOf, field, isRecord}
-use Rattle.identities.specs.Identities.{identityInForm}
-use Rattle.rows.specs.Lists.{padded}
-use Rattle.rows.specs.Supplements.{isIdentityRight, isLoadRequestRight, isWellFormed}
-use Rattle.rows.specs.declared.Supplement.{Supplement}
+use Rattle.check_crc.specs.Crc.{crcBit, crcEight, crcByte}
+use Rattle.check_digits.specs.Hex.{hexDigit}
+use Rattle.check_sums.specs.Checksum.{sumDigits, endsInSum}
+use Rattle.text_classes.specs.Classes.{isAlphanumeric, isMark, areAll}
+use Rattle.text_classes.specs.Identifiers.{isIdentifier}
+use Rattle.text_calendar.specs.Calendar.{isLeap, daysIn, isDate, isTime}
+use Rattle.text_timestamps.specs.Timestamps.{isDateAndTime, isTimestamp}
+use Rattle.record_parser.specs.Records.{bodyOf, field, isRecord}
+use Rattle.record_identities.specs.Identities.{identityInForm}
+use Rattle.row_types.specs.Lists.{padded}
+use Rattle.row_types.specs.Supplements.{isIdentityRight, isLoadRequestRight, isWellFormed}
+use Rattle.row_types.specs.declared.Supplement.{Supplement}
 use Rattle.console_verbs.specs.declared.Part.{Part}
 use Rattle.console_verbs.specs.declared.Part.the-variants.{Clock, Identity, LoadRequest, Tag, Check}
 use Rattle.console_supplement.specs.Parts.{fitted, withPart, blank, startSupplement}

@@ -5,10 +5,10 @@ use Prim.Native.Nat.{ℕ}
 use native.Mathlib.Omega.{arith}
 use lib.ListN.{length, replicate, length-replicate, drop-of-length-le}
 use borrow.Author.Tests.{eq-eqb, ne-eqb}
-use Rattle.octets.specs.Wrote.{Wrote}
-use Rattle.octets.proofs.Writes.{from-start}
-use Rattle.rows.specs.Lists.{padded}
-use Rattle.rows.specs.declared.Supplement.{Supplement}
+use Rattle.byte_strings.specs.Wrote.{Wrote}
+use Rattle.byte_strings.proofs.Writes.{from-start}
+use Rattle.row_types.specs.Lists.{padded}
+use Rattle.row_types.specs.declared.Supplement.{Supplement}
 use Rattle.console_verbs.specs.declared.Part.{Part}
 use Rattle.console_verbs.specs.declared.Part.the-variants.{Clock, Identity, LoadRequest, Tag, Check}
 use Rattle.console_supplement.specs.Parts.{fitted, withClock, withIdentity, withRequest, withTag, withCheck, withPart, blank, startClock, startIdentity, startRequest, startSupplement}

@@ -5,9 +5,9 @@ use mathlib.Core.Bool.{cond}
 use mathlib.Core.List.{List}
 use lib.Dec.{eqb}
 use lib.ListN.{length, replicate}
-use Rattle.octets.specs.Texts.{text}
-use Rattle.rows.specs.Lists.{padded}
-use Rattle.rows.specs.declared.Supplement.{Supplement}
+use Rattle.byte_strings.specs.Texts.{text}
+use Rattle.row_types.specs.Lists.{padded}
+use Rattle.row_types.specs.declared.Supplement.{Supplement}
 use Rattle.console_verbs.specs.declared.Part.{Part}
 use Rattle.console_verbs.specs.declared.Part.the-variants.{Clock, Identity, LoadRequest, Tag, Check}
 

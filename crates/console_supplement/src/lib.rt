@@ -1,8 +1,8 @@
 // The supplement that the console hands in (docs/CONSOLE.md): each part set by a line, and all of it at the start.
 use console_verbs::Part;
-use rows::Supplement;
+use row_types::Supplement;
 ghost use mathlib.Core.Path.{_≡_};
-ghost use Rattle.rows.specs.Lists.{padded};
+ghost use Rattle.row_types.specs.Lists.{padded};
 ghost use Rattle.console_supplement.specs.Parts.{fitted, withPart, withPassed, blank, startSupplement};
 
 fn sixteen(v: &[u8]) -> [u8; 16]
@@ -10,7 +10,7 @@ fn sixteen(v: &[u8]) -> [u8; 16]
 {
     let mut space = [0u8; 16];
     if v.len() == 16 {
-        octets::put(&mut space, 0, v);
+        byte_strings::put(&mut space, 0, v);
     }
     space
 }
@@ -20,7 +20,7 @@ fn forty_eight(v: &[u8]) -> [u8; 48]
 {
     let mut space = [0u8; 48];
     if v.len() == 48 {
-        octets::put(&mut space, 0, v);
+        byte_strings::put(&mut space, 0, v);
     }
     space
 }
@@ -30,7 +30,7 @@ fn six(v: &[u8]) -> [u8; 6]
 {
     let mut space = [0u8; 6];
     if v.len() == 6 {
-        octets::put(&mut space, 0, v);
+        byte_strings::put(&mut space, 0, v);
     }
     space
 }
@@ -39,7 +39,7 @@ fn identity_space(v: &[u8]) -> [u8; 128]
     ensures { λ r. ⌜ r ≡ padded 128 (now (v .entry)) ⌝ }
 {
     let mut space = [0u8; 128];
-    octets::put(&mut space, 0, octets::front(v, 128));
+    byte_strings::put(&mut space, 0, byte_strings::front(v, 128));
     space
 }
 
@@ -47,7 +47,7 @@ fn request_space(v: &[u8]) -> [u8; 700]
     ensures { λ r. ⌜ r ≡ padded 700 (now (v .entry)) ⌝ }
 {
     let mut space = [0u8; 700];
-    octets::put(&mut space, 0, octets::front(v, 700));
+    byte_strings::put(&mut space, 0, byte_strings::front(v, 700));
     space
 }
 

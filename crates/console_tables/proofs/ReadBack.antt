@@ -9,20 +9,20 @@ use lib.Dec.{eqb}
 use lib.ListN.{length, take, drop, replicate}
 use lib.Seq.{take-append-seam, drop-append-add, take-at}
 use borrow.Author.Tests.{eq-eqb}
-use Rattle.octets.specs.Strings.{isNot, run, allOf}
-use Rattle.octets.proofs.Flags.{and-both}
-use Rattle.octets.proofs.StringLaws.{isByte, all-run}
-use Rattle.text.specs.Classes.{areAll}
-use Rattle.text.specs.declared.Class.the-variants.{Hexadecimal}
-use Rattle.text.proofs.ClassLaws.{class-plain}
-use Rattle.forms.specs.Forms.{inForm}
-use Rattle.forms.specs.declared.Form.the-variants.{Hex}
-use Rattle.rows.specs.Lists.{padded}
-use Rattle.rows.specs.declared.SlotRow.{SlotRow}
-use Rattle.rows.specs.declared.RegisterRow.{RegisterRow}
-use Rattle.hex_octets.specs.Octets.{digitsOf, octetsOf}
-use Rattle.hex_octets.proofs.OctetLaws.{digits-length}
-use Rattle.hex_octets.proofs.RoundTrip.{octets-back, digits-hexadecimal}
+use Rattle.byte_strings.specs.Strings.{isNot, run, allOf}
+use Rattle.byte_strings.proofs.Flags.{and-both}
+use Rattle.byte_strings.proofs.StringLaws.{isByte, all-run}
+use Rattle.text_classes.specs.Classes.{areAll}
+use Rattle.text_classes.specs.declared.Class.the-variants.{Hexadecimal}
+use Rattle.text_classes.proofs.ClassLaws.{class-plain}
+use Rattle.text_forms.specs.Forms.{inForm}
+use Rattle.text_forms.specs.declared.Form.the-variants.{Hex}
+use Rattle.row_types.specs.Lists.{padded}
+use Rattle.row_types.specs.declared.SlotRow.{SlotRow}
+use Rattle.row_types.specs.declared.RegisterRow.{RegisterRow}
+use Rattle.console_octets.specs.Octets.{digitsOf, octetsOf}
+use Rattle.console_octets.proofs.OctetLaws.{digits-length}
+use Rattle.console_octets.proofs.RoundTrip.{octets-back, digits-hexadecimal}
 use Rattle.console_words.specs.Words.{word, rest}
 use Rattle.console_forms.specs.LineForms.{isSlotRow}
 use Rattle.console_tables.specs.RowLines.{slotOf, registerOf}

@@ -6,15 +6,15 @@ use native.Mathlib.Nat.{add-suc, suc-add}
 use native.Mathlib.Omega.{arith}
 use lib.ListN.{length, set, take, replicate}
 use lib.Seq.{set-out}
-use Rattle.octets.specs.Wrote.{Wrote}
-use Rattle.rows.specs.Lists.{padded}
-use Rattle.rows.specs.Slots.{freeSlot}
-use Rattle.rows.specs.Registers.{freeRegister}
-use Rattle.rows.specs.declared.SlotRow.{SlotRow}
-use Rattle.rows.specs.declared.RegisterRow.{RegisterRow}
-use Rattle.rows.specs.declared.Tables.{Tables}
+use Rattle.byte_strings.specs.Wrote.{Wrote}
+use Rattle.row_types.specs.Lists.{padded}
+use Rattle.row_types.specs.Slots.{freeSlot}
+use Rattle.row_types.specs.Registers.{freeRegister}
+use Rattle.row_types.specs.declared.SlotRow.{SlotRow}
+use Rattle.row_types.specs.declared.RegisterRow.{RegisterRow}
+use Rattle.row_types.specs.declared.Tables.{Tables}
 use Rattle.slot_rows.proofs.PadLaws.{in-zeros}
-use Rattle.hex_octets.specs.Octets.{octetOf, octetsOf}
+use Rattle.console_octets.specs.Octets.{octetOf, octetsOf}
 use Rattle.console_words.specs.Words.{word, rest}
 use Rattle.console_tables.specs.RowLines.{slotOf, registerOf, emptyTables, withSlot, withRegister}
 

@@ -3,13 +3,13 @@
 use Prim.Native.Nat.{ℕ}
 use mathlib.Core.List.{List}
 use lib.ListN.{set, replicate}
-use Rattle.rows.specs.Lists.{padded}
-use Rattle.rows.specs.Slots.{freeSlot}
-use Rattle.rows.specs.Registers.{freeRegister}
-use Rattle.rows.specs.declared.SlotRow.{SlotRow}
-use Rattle.rows.specs.declared.RegisterRow.{RegisterRow}
-use Rattle.rows.specs.declared.Tables.{Tables}
-use Rattle.hex_octets.specs.Octets.{octetsOf}
+use Rattle.row_types.specs.Lists.{padded}
+use Rattle.row_types.specs.Slots.{freeSlot}
+use Rattle.row_types.specs.Registers.{freeRegister}
+use Rattle.row_types.specs.declared.SlotRow.{SlotRow}
+use Rattle.row_types.specs.declared.RegisterRow.{RegisterRow}
+use Rattle.row_types.specs.declared.Tables.{Tables}
+use Rattle.console_octets.specs.Octets.{octetsOf}
 use Rattle.console_words.specs.Words.{word, rest}
 
 -- NAME FINGERPRINT TVP

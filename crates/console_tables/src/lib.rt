@@ -1,10 +1,10 @@
 // The tables that the console lends (docs/CONSOLE.md): all zero, and with a row set from its digits.
-use rows::RegisterRow;
-use rows::SlotRow;
-use rows::Tables;
+use row_types::RegisterRow;
+use row_types::SlotRow;
+use row_types::Tables;
 ghost use mathlib.Core.Path.{_≡_};
-ghost use Rattle.rows.specs.Lists.{padded};
-ghost use Rattle.hex_octets.specs.Octets.{octetsOf};
+ghost use Rattle.row_types.specs.Lists.{padded};
+ghost use Rattle.console_octets.specs.Octets.{octetsOf};
 ghost use Rattle.console_tables.specs.RowLines.{slotOf, registerOf, emptyTables, withSlot, withRegister};
 
 // What fits into 40 bytes of the octets of the digits s, with zeros after them.
@@ -12,7 +12,7 @@ fn in_forty(s: &[u8]) -> [u8; 40]
     ensures { λ r. ⌜ r ≡ padded 40 (octetsOf (now (s .entry))) ⌝ }
 {
     let mut space = [0u8; 40];
-    hex_octets::put_octets(&mut space, octets::front(s, 80));
+    console_octets::put_octets(&mut space, byte_strings::front(s, 80));
     space
 }
 
@@ -20,7 +20,7 @@ fn in_sixteen(s: &[u8]) -> [u8; 16]
     ensures { λ r. ⌜ r ≡ padded 16 (octetsOf (now (s .entry))) ⌝ }
 {
     let mut space = [0u8; 16];
-    hex_octets::put_octets(&mut space, octets::front(s, 32));
+    console_octets::put_octets(&mut space, byte_strings::front(s, 32));
     space
 }
 
@@ -42,7 +42,7 @@ pub fn register_of(digits: &[u8]) -> RegisterRow
     ensures { λ r. ⌜ r ≡ registerOf (now (digits .entry)) ⌝ }
 {
     let mut card = [0u8; 256];
-    hex_octets::put_octets(&mut card, octets::front(digits, 512));
+    console_octets::put_octets(&mut card, byte_strings::front(digits, 512));
     RegisterRow { card }
 }
 

@@ -5,12 +5,12 @@ use mathlib.Core.List.{List, [], _∷_, _++_, map}
 use Prim.Native.Nat.{ℕ, _+_, _≤_, _<_}
 use native.Mathlib.Omega.{arith}
 use lib.ListN.{length}
-use Rattle.octets.specs.Wrote.{Wrote}
-use Rattle.octets.proofs.Writes.{then}
-use Rattle.text.specs.Classes.{isOf}
-use Rattle.text.specs.declared.Class.the-variants.{Text}
-use Rattle.rows.specs.Lists.{trimmed, inTurn}
-use Rattle.rows.proofs.ListLaws.{trimmed-short}
+use Rattle.byte_strings.specs.Wrote.{Wrote}
+use Rattle.byte_strings.proofs.Writes.{then}
+use Rattle.text_classes.specs.Classes.{isOf}
+use Rattle.text_classes.specs.declared.Class.the-variants.{Text}
+use Rattle.row_types.specs.Lists.{trimmed, inTurn}
+use Rattle.row_types.proofs.ListLaws.{trimmed-short}
 use Rattle.console_text.specs.Texts.{legible, orDash, shown}
 
 -- put_legible

@@ -3,10 +3,10 @@ use Prim.Native.Nat.{ℕ}
 use Prim.Native.Char.{code}
 use mathlib.Core.Bool.{cond}
 use mathlib.Core.List.{List, [], _∷_, map}
-use Rattle.text.specs.Classes.{isOf}
-use Rattle.text.specs.declared.Class.the-variants.{Text}
-use Rattle.octets.specs.Texts.{text}
-use Rattle.rows.specs.Lists.{trimmed}
+use Rattle.text_classes.specs.Classes.{isOf}
+use Rattle.text_classes.specs.declared.Class.the-variants.{Text}
+use Rattle.byte_strings.specs.Texts.{text}
+use Rattle.row_types.specs.Lists.{trimmed}
 
 -- a byte that is not 20 to 7D hexadecimal is a full stop
 unfoldable pub legible : ℕ → ℕ

@@ -6,8 +6,8 @@ use Prim.Native.Nat.{ℕ, _+_, _≤_, _<_}
 use native.Mathlib.Numerals.{add-one}
 use lib.ListN.{getD, drop, drop-of-length-le}
 use lib.Seq.{drop-cons}
-use Rattle.octets.specs.Strings.{sameBytes}
-use Rattle.rows.specs.Lists.{trimmed}
+use Rattle.byte_strings.specs.Strings.{sameBytes}
+use Rattle.row_types.specs.Lists.{trimmed}
 use Rattle.console_verbs.specs.Verbs.{verbs, named, verbOf}
 use Rattle.console_verbs.specs.declared.Verb.{Verb}
 use Rattle.console_verbs.specs.declared.Verb.the-variants.{Unknown}

@@ -2,9 +2,9 @@
 use Prim.Native.Nat.{ℕ}
 use mathlib.Core.Bool.{cond}
 use mathlib.Core.List.{List, [], _∷_}
-use Rattle.octets.specs.Texts.{text}
-use Rattle.octets.specs.Strings.{sameBytes}
-use Rattle.rows.specs.Lists.{trimmed}
+use Rattle.byte_strings.specs.Texts.{text}
+use Rattle.byte_strings.specs.Strings.{sameBytes}
+use Rattle.row_types.specs.Lists.{trimmed}
 use Rattle.console_verbs.specs.declared.Part.the-variants.{Clock, Identity, LoadRequest, Tag, Check}
 use Rattle.console_verbs.specs.declared.Verb.{Verb}
 use Rattle.console_verbs.specs.declared.Verb.the-variants.{Tables, Buffer, Set, Passed, Send, Raw, Slot, Register}

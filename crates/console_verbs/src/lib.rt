@@ -66,7 +66,7 @@ pub fn verb_of(word: &[u8]) -> Verb
     while k < 15 {
         let e = verb_at(k);
         let name = e.1;
-        if octets::same_bytes(word, slot_tests::trimmed(&name)) {
+        if byte_strings::same_bytes(word, slot_tests::trimmed(&name)) {
             return e.0;
         }
         k += 1;

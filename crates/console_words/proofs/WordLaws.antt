@@ -7,7 +7,7 @@ use native.Mathlib.Omega.{arith}
 use lib.Dec.{ltb}
 use lib.ListN.{length, take, drop, length-drop, drop-of-length-le}
 use lib.Seq.{take-all}
-use Rattle.octets.specs.Strings.{isNot, run}
+use Rattle.byte_strings.specs.Strings.{isNot, run}
 use Rattle.console_words.specs.Words.{word, rest, hasRest}
 
 -- n is where the first space stands

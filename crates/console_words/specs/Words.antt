@@ -5,7 +5,7 @@ use mathlib.Core.Bool.{Bool}
 use mathlib.Core.List.{List}
 use lib.Dec.{ltb}
 use lib.ListN.{length, take, drop}
-use Rattle.octets.specs.Strings.{isNot, run}
+use Rattle.byte_strings.specs.Strings.{isNot, run}
 
 abbrev pub space : ℕ
 space = code " "

@@ -6,7 +6,7 @@ ghost use Rattle.console_words.specs.Words.{word, rest, hasRest};
 pub fn word<'a>(line: &'a [u8]) -> &'a [u8]
     ensures { λ r. ⌜ now r ≡ word (now (line .entry)) ⌝ }
 {
-    let n = pieces::piece_end(line, 0, b' ');
+    let n = byte_pieces::piece_end(line, 0, b' ');
     &line[0..n]
 }
 
@@ -14,7 +14,7 @@ pub fn word<'a>(line: &'a [u8]) -> &'a [u8]
 pub fn rest<'a>(line: &'a [u8]) -> &'a [u8]
     ensures { λ r. ⌜ now r ≡ rest (now (line .entry)) ⌝ }
 {
-    let n = pieces::piece_end(line, 0, b' ');
+    let n = byte_pieces::piece_end(line, 0, b' ');
     if line.len() <= n {
         return &line[0..0];
     }
@@ -25,5 +25,5 @@ pub fn rest<'a>(line: &'a [u8]) -> &'a [u8]
 pub fn has_rest(line: &[u8]) -> bool
     ensures { λ r. ⌜ r ≡ hasRest (now (line .entry)) ⌝ }
 {
-    pieces::piece_end(line, 0, b' ') < line.len()
+    byte_pieces::piece_end(line, 0, b' ') < line.len()
 }

@@ -8,20 +8,20 @@ use native.Mathlib.Omega.{arith}
 use lib.Dec.{leb}
 use lib.ListN.{length, take}
 use borrow.Author.Tests.{leb-true}
-use Rattle.octets.proofs.Flags.{nope, and-first, and-second}
-use Rattle.frames.specs.Frames.{isWhole, endsInReturn}
-use Rattle.responses.specs.Responses.{Reply, replyBytes}
+use Rattle.byte_strings.proofs.Flags.{nope, and-first, and-second}
+use Rattle.message_frames.specs.Frames.{isWhole, endsInReturn}
+use Rattle.message_replies.specs.Responses.{Reply, replyBytes}
 use Rattle.history.specs.History.{finally, trace}
 use Rattle.history.specs.Model.{Item}
 use Rattle.history.specs.Demand3.{Demand3}
-use Rattle.rows.specs.RowReplies.{slotNames}
+use Rattle.row_types.specs.RowReplies.{slotNames}
 use Rattle.engine.specs.Questions.{Call, areCounts, questions}
 use Rattle.engine.specs.Answers.{Answer, response, responseOf, bufferAfter, refused, answerOf}
 use Rattle.engine.specs.Outcomes.{outcomeNumber}
 use Rattle.engine.specs.Words.{Lent, Input, callOf, tablesOf, itemOf, itemAt, rowsAfter, emptyRows}
 use Rattle.engine.proofs.ReadsBack.{reads-back}
 use Rattle.engine.proofs.Demand3 as engine
-use Rattle.answer_numbers.specs.Numbers.{stateByte}
+use Rattle.entry_numbers.specs.Numbers.{stateByte}
 use Rattle.diminurel.specs.Handles.{Run, Handles, inputIn, answerIn}
 use Rattle.demands.specs.Demands.{Runs, itemIn, HoldsOfLists, plain, HasRuns}
 

@@ -9,11 +9,11 @@ use lib.ListN.{length, take, drop}
 use native.Mathlib.Omega.{arith}
 use lib.Seq.{take-at, drop-at}
 use borrow.Author.Tests.{eqb-true}
-use Rattle.octets.proofs.Flags.{nope}
-use Rattle.responses.specs.Responses.{Reply, Says}
-use Rattle.rows.specs.Slots.{stateNumber}
-use Rattle.rows.specs.declared.SlotState.{SlotState}
-use Rattle.rows.specs.declared.SlotState.the-variants.{Free, Pending, Loading, Idle}
+use Rattle.byte_strings.proofs.Flags.{nope}
+use Rattle.message_replies.specs.Responses.{Reply, Says}
+use Rattle.row_types.specs.Slots.{stateNumber}
+use Rattle.row_types.specs.declared.SlotState.{SlotState}
+use Rattle.row_types.specs.declared.SlotState.the-variants.{Free, Pending, Loading, Idle}
 use Rattle.engine.specs.Refusals.{refusal}
 use Rattle.engine.specs.Requests.{commandIn}
 use Rattle.engine.specs.Questions.{Call, slotNamed, questions, firstNo}
@@ -27,8 +27,8 @@ use Rattle.engine.proofs.QuestionLaws.{all-yes}
 use Rattle.engine.proofs.ReadsBack.{reads-back}
 use Rattle.engine.proofs.SlotStates.{isSession, state-left, state-carried}
 use Rattle.engine.proofs.AnswerLaws.{first-no-decides, refused-by, refused-keeps, no-reply-exactly}
-use Rattle.answer_cases.proofs.Numbers.{one-number, number-range, answer-zero, answer-within}
-use Rattle.answer_numbers.specs.Numbers.{stateByte}
+use Rattle.case_answers.proofs.Numbers.{one-number, number-range, answer-zero, answer-within}
+use Rattle.entry_numbers.specs.Numbers.{stateByte}
 use Rattle.diminurel.specs.Handles.{Run, Handles, inputIn, answerIn}
 use Rattle.demands.specs.Demands.{responseIn, SaysReply, slotNameIn, Demand1, Demand2}
 

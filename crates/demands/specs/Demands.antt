@@ -7,9 +7,9 @@ use mathlib.Core.Bool.{true}
 use mathlib.Core.List.{List, [], _∷_, map}
 use mathlib.Core.Option.{Option, none, some}
 use lib.ListN.{length, take, drop}
-use Rattle.responses.specs.Responses.{Reply, Says}
-use Rattle.commands.specs.declared.Command.the-variants.{KC, KR, KL, KF, KX}
-use Rattle.rows.specs.RowReplies.{InSomeSequence}
+use Rattle.message_replies.specs.Responses.{Reply, Says}
+use Rattle.message_commands.specs.declared.Command.the-variants.{KC, KR, KL, KF, KX}
+use Rattle.row_types.specs.RowReplies.{InSomeSequence}
 use Rattle.history.specs.Model.{Item}
 use Rattle.history.specs.Demand3.{Demand3}
 use Rattle.engine.specs.Refusals.{refusal}

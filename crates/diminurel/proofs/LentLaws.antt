@@ -6,22 +6,22 @@ use Prim.Native.Nat.{ℕ, _≤_}
 use native.Mathlib.Omega.{arith}
 use lib.ListN.{length, take-append-drop}
 use lib.Seq.{take-length}
-use Rattle.rows.specs.Places.{slotRows, registerRows}
-use Rattle.rows.specs.RowReplies.{slotNames}
-use Rattle.rows.specs.declared.SlotRow.{SlotRow}
-use Rattle.rows.specs.declared.RegisterRow.{RegisterRow}
-use Rattle.rows.specs.declared.Supplement.{Supplement}
-use Rattle.rows.specs.declared.Tables.{Tables}
-use Rattle.row_counts.proofs.CountLaws.{slots-few, registers-few}
+use Rattle.row_types.specs.Places.{slotRows, registerRows}
+use Rattle.row_types.specs.RowReplies.{slotNames}
+use Rattle.row_types.specs.declared.SlotRow.{SlotRow}
+use Rattle.row_types.specs.declared.RegisterRow.{RegisterRow}
+use Rattle.row_types.specs.declared.Supplement.{Supplement}
+use Rattle.row_types.specs.declared.Tables.{Tables}
+use Rattle.decide_counts.proofs.CountLaws.{slots-few, registers-few}
 use Rattle.engine.specs.Questions.{Call, areCounts, questions}
 use Rattle.engine.specs.Answers.{Answer, refused, answerOf}
 use Rattle.engine.specs.Calls.{callIn, Responded, tablesAfter}
 use Rattle.engine.specs.Usable.{isUsable}
 use Rattle.engine.specs.declared.Refusal.the-variants.{RowCounts}
 use Rattle.engine.proofs.Counted.{counted}
-use Rattle.lent_rows.specs.Tables.{overlay, freeSlots, freeRegisters, slotTable, registerTable}
-use Rattle.lent_rows.proofs.OverlayLaws.{overlay-front, overlay-others, overlay-back}
-use Rattle.answer_numbers.specs.Joined.{joined}
+use Rattle.row_lending.specs.Tables.{overlay, freeSlots, freeRegisters, slotTable, registerTable}
+use Rattle.row_lending.proofs.OverlayLaws.{overlay-front, overlay-others, overlay-back}
+use Rattle.entry_numbers.specs.Joined.{joined}
 use Rattle.engine.specs.Words.{callOf}
 use Rattle.diminurel.specs.Lent.{LentResponded, lentTables}
 

@@ -6,14 +6,14 @@ use mathlib.Core.List.{List, []}
 use lib.ListN.{length}
 use denote.Ref.{RefT, now}
 use denote.Triple.Both.{Both}
-use Rattle.rows.specs.declared.SlotRow.{SlotRow}
-use Rattle.rows.specs.declared.RegisterRow.{RegisterRow}
-use Rattle.rows.specs.declared.Supplement.{Supplement}
+use Rattle.row_types.specs.declared.SlotRow.{SlotRow}
+use Rattle.row_types.specs.declared.RegisterRow.{RegisterRow}
+use Rattle.row_types.specs.declared.Supplement.{Supplement}
 use Rattle.engine.specs.Answers.{Answer, answerOf}
 use Rattle.engine.specs.Outcomes.{outcomeNumber}
 use Rattle.engine.specs.Words.{Input, Lent, callOf}
-use Rattle.answer_numbers.specs.Numbers.{stateByte}
-use Rattle.answer_numbers.specs.declared.Reply.{Reply}
+use Rattle.entry_numbers.specs.Numbers.{stateByte}
+use Rattle.entry_numbers.specs.declared.Reply.{Reply}
 use Rattle.diminurel.specs.Lent.{LentResponded}
 
 -- a call: request, supplement and response buffer as they were handed in; afterwards the buffer, the outcome's number,

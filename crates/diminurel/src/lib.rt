@@ -1,12 +1,12 @@
 // The entry points for callers in any language, over the rows that the caller lends, of any number (document 01, "What
 // the caller lends"): the rows are loaded into tables, answered by value and in numbers, and stored back.
-use answer_numbers::Reply;
-use rows::RegisterRow;
-use rows::SlotRow;
-use rows::Supplement;
+use entry_numbers::Reply;
+use row_types::RegisterRow;
+use row_types::SlotRow;
+use row_types::Supplement;
 ghost use mathlib.Core.Path.{_≡_};
 ghost use Rattle.engine.specs.Usable.{isUsable};
-ghost use Rattle.answer_numbers.specs.Numbers.{yesByte};
+ghost use Rattle.entry_numbers.specs.Numbers.{yesByte};
 ghost use Rattle.diminurel.specs.Handles.{Handled};
 ghost use Rattle.diminurel.specs.Lent.{lentTables};
 
@@ -21,15 +21,15 @@ pub extern "C" fn diminurel_handle(
 ) -> Reply
     ensures { λ reply. ⌜ Handled slots registers supplement request response reply ⌝ }
 {
-    let a = answer_numbers::answer(
-        lent_rows::load_slots(slots),
-        lent_rows::load_registers(registers),
+    let a = entry_numbers::answer(
+        row_lending::load_slots(slots),
+        row_lending::load_registers(registers),
         supplement,
         request,
         response,
     );
-    lent_rows::store_slots(slots, a.slots);
-    lent_rows::store_registers(registers, a.registers);
+    row_lending::store_slots(slots, a.slots);
+    row_lending::store_registers(registers, a.registers);
     a.reply
 }
 
@@ -42,9 +42,9 @@ pub extern "C" fn diminurel_usable(
 ) -> u8
     ensures { λ n. ⌜ n ≡ yesByte (isUsable (lentTables (now (slots .entry)) (now (registers .entry))) register) ⌝ }
 {
-    answer_numbers::usable(
-        lent_rows::load_slots(slots),
-        lent_rows::load_registers(registers),
+    entry_numbers::usable(
+        row_lending::load_slots(slots),
+        row_lending::load_registers(registers),
         register,
     )
 }

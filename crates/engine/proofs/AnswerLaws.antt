@@ -10,14 +10,14 @@ use native.Mathlib.Omega.{arith}
 use lib.Dec.{eqb, leb}
 use lib.ListN.{length}
 use borrow.Author.Tests.{leb-true, le-leb}
-use Rattle.octets.proofs.Flags.{nope, and-first, and-second, or-cases}
-use Rattle.fields.specs.Values.{Value}
-use Rattle.commands.specs.declared.Command.{Command}
-use Rattle.commands.specs.declared.Command.the-variants.{RS, KC, KR, KL, KF, KX, KD, GA, GL, KQ, Unknown}
-use Rattle.responses.specs.Responses.{Reply}
-use Rattle.responses.proofs.ResponseLaws.{reply-some}
-use Rattle.rows.specs.Lists.{someRow, firstFrom}
-use Rattle.rows.specs.Registers.{isVacant, isKeyOf}
+use Rattle.byte_strings.proofs.Flags.{nope, and-first, and-second, or-cases}
+use Rattle.field_values.specs.Values.{Value}
+use Rattle.message_commands.specs.declared.Command.{Command}
+use Rattle.message_commands.specs.declared.Command.the-variants.{RS, KC, KR, KL, KF, KX, KD, GA, GL, KQ, Unknown}
+use Rattle.message_replies.specs.Responses.{Reply}
+use Rattle.message_replies.proofs.ResponseLaws.{reply-some}
+use Rattle.row_types.specs.Lists.{someRow, firstFrom}
+use Rattle.row_types.specs.Registers.{isVacant, isKeyOf}
 use Rattle.engine.specs.Refusals.{Header, general, own, RefusalEntry, refusal}
 use Rattle.engine.specs.Requests.{isAmong, commandIn, fieldsIn, recordIn, slotIn, cardIn}
 use Rattle.engine.specs.Questions.{Call, Question, _otherwise_, asked, isPlace, placeElse, keyPlace, vacantPlace, storePlace, groupIn, revisionIn, questions, firstNo}

@@ -9,12 +9,12 @@ use native.Mathlib.Omega.{arith}
 use lib.Dec.{eqb, leb}
 use lib.ListN.{length, take, length-take}
 use borrow.Author.Tests.{leb-true, eqb-true}
-use Rattle.octets.specs.Strings.{sameBytes}
-use Rattle.octets.proofs.Flags.{and-first, and-second, no, holds}
-use Rattle.fields.specs.Values.{Value}
-use Rattle.frames.specs.Frames.{isWhole, textOf, headerOf}
-use Rattle.responses.specs.Responses.{Reply, replyBytes, replyTo, responseBytes, statusOf}
-use Rattle.responses.proofs.ResponseLaws.{reply-status, answered-five}
+use Rattle.byte_strings.specs.Strings.{sameBytes}
+use Rattle.byte_strings.proofs.Flags.{and-first, and-second, no, holds}
+use Rattle.field_values.specs.Values.{Value}
+use Rattle.message_frames.specs.Frames.{isWhole, textOf, headerOf}
+use Rattle.message_replies.specs.Responses.{Reply, replyBytes, replyTo, responseBytes, statusOf}
+use Rattle.message_replies.proofs.ResponseLaws.{reply-status, answered-five}
 use Rattle.engine.specs.Refusals.{refusal}
 use Rattle.engine.specs.Questions.{Call, questions, firstNo}
 use Rattle.engine.specs.Answers.{accepted, responseOf}

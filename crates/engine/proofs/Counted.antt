@@ -4,9 +4,9 @@ use mathlib.Core.Option.{Option, none, some}
 use mathlib.Core.List.{List}
 use Prim.Native.Nat.{ℕ}
 use lib.ListN.{length, length-set, length-map}
-use Rattle.fields.specs.Values.{Value}
-use Rattle.commands.specs.declared.Command.{Command}
-use Rattle.commands.specs.declared.Command.the-variants.{RS, KC, KR, KL, KF, KX, KD, GA, GL, KQ, Unknown}
+use Rattle.field_values.specs.Values.{Value}
+use Rattle.message_commands.specs.declared.Command.{Command}
+use Rattle.message_commands.specs.declared.Command.the-variants.{RS, KC, KR, KL, KF, KX, KD, GA, GL, KQ, Unknown}
 use Rattle.engine.specs.Requests.{commandIn, fieldsIn}
 use Rattle.engine.specs.Questions.{Call, questions, firstNo}
 use Rattle.engine.specs.Answers.{Answer, slotsPending, slotsWithout, refused, answered, listed, effect, answerTo, answerOf}

@@ -4,10 +4,10 @@ use mathlib.Core.Bool.{Bool, true, false}
 use mathlib.Core.List.{List, [], _∷_, _++_}
 use mathlib.Core.Option.{Option, none, some}
 use Prim.Native.Nat.{ℕ}
-use Rattle.octets.proofs.Flags.{nope}
-use Rattle.fields.specs.Values.{Value}
-use Rattle.commands.specs.declared.Command.{Command}
-use Rattle.commands.specs.declared.Command.the-variants.{RS, KC, KR, KL, KF, KX, KD, GA, GL, KQ, Unknown}
+use Rattle.byte_strings.proofs.Flags.{nope}
+use Rattle.field_values.specs.Values.{Value}
+use Rattle.message_commands.specs.declared.Command.{Command}
+use Rattle.message_commands.specs.declared.Command.the-variants.{RS, KC, KR, KL, KF, KX, KD, GA, GL, KQ, Unknown}
 use Rattle.engine.specs.Requests.{isOneOfTen, commandIn, fieldsIn, recordIn, slotIn}
 use Rattle.engine.specs.Questions.{Call, Question, _otherwise_, tableQuestions, messageQuestions, questions, firstNo}
 use Rattle.engine.specs.Answers.{effect, refused, answerOf}

@@ -4,9 +4,9 @@ use mathlib.Core.List.{List}
 use Prim.Native.Nat.{ℕ}
 use lib.ListN.{length, drop}
 use lib.Seq.{take-at}
-use Rattle.rows.specs.Slots.{freeSlot}
-use Rattle.rows.specs.Registers.{freeRegister}
-use Rattle.rows.proofs.ListLaws.{map-replicate}
+use Rattle.row_types.specs.Slots.{freeSlot}
+use Rattle.row_types.specs.Registers.{freeRegister}
+use Rattle.row_types.proofs.ListLaws.{map-replicate}
 use Rattle.history.specs.History.{finally, trace}
 use Rattle.history.specs.Model.{Tables, empty}
 use Rattle.history.specs.Step.{Step}

@@ -8,16 +8,16 @@ use native.Mathlib.Omega.{arith}
 use lib.Dec.{leb}
 use lib.ListN.{length, getD}
 use borrow.Author.Tests.{leb-true}
-use Rattle.octets.proofs.Flags.{nope, and-first, and-second}
-use Rattle.text.specs.Classes.{areAll}
-use Rattle.attributes.specs.Table.{KSL}
-use Rattle.rows.specs.Lists.{everyRow}
-use Rattle.rows.specs.Slots.{isZeroSlot, hasState, isNamed, isSlotSound, freeSlot}
-use Rattle.rows.specs.Registers.{isVacant, attributeOf, isKeyOf, freeRegister}
-use Rattle.rows.specs.declared.SlotRow.{SlotRow}
-use Rattle.rows.specs.declared.RegisterRow.{RegisterRow}
-use Rattle.rows.specs.declared.SlotState.the-variants.{Free}
-use Rattle.rows.proofs.ListLaws.{found, found-none, every-at}
+use Rattle.byte_strings.proofs.Flags.{nope, and-first, and-second}
+use Rattle.text_classes.specs.Classes.{areAll}
+use Rattle.card_attributes.specs.Table.{KSL}
+use Rattle.row_types.specs.Lists.{everyRow}
+use Rattle.row_types.specs.Slots.{isZeroSlot, hasState, isNamed, isSlotSound, freeSlot}
+use Rattle.row_types.specs.Registers.{isVacant, attributeOf, isKeyOf, freeRegister}
+use Rattle.row_types.specs.declared.SlotRow.{SlotRow}
+use Rattle.row_types.specs.declared.RegisterRow.{RegisterRow}
+use Rattle.row_types.specs.declared.SlotState.the-variants.{Free}
+use Rattle.row_types.proofs.ListLaws.{found, found-none, every-at}
 use Rattle.history.specs.Model.{State, slotRow, used, vacant, key}
 use Rattle.history.specs.Step.{SessionPlace, own, fresh, StorePlace, held, spare}
 use Rattle.engine.specs.Questions.{slotPlace, freePlace, keyPlace, vacantPlace, isPlace, placeElse, sessionPlace, storePlace, isFilled}

@@ -4,7 +4,7 @@ use mathlib.Core.Logic.{_⊎_, inl, inr}
 use mathlib.Core.Bool.{Bool, true, false, _&&_}
 use mathlib.Core.List.{List, [], _∷_, _++_}
 use mathlib.Core.Option.{none, some}
-use Rattle.octets.proofs.Flags.{nope, and-first, and-second}
+use Rattle.byte_strings.proofs.Flags.{nope, and-first, and-second}
 use Rattle.engine.specs.Questions.{Question, _otherwise_, firstNo}
 use Rattle.engine.specs.declared.Refusal.{Refusal}
 

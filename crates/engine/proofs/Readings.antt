@@ -3,15 +3,15 @@ use mathlib.Core.Path.{_≡_, refl}
 use mathlib.Core.Bool.{true}
 use mathlib.Core.List.{List, [], _∷_}
 use Prim.Native.Nat.{ℕ}
-use Rattle.octets.specs.Texts.{text}
-use Rattle.octets.proofs.Flags.{nope}
-use Rattle.identities.specs.Identities.{nameIn}
-use Rattle.stored_cards.specs.Stored.{inRow}
-use Rattle.responses.specs.Responses.{fieldsOf}
-use Rattle.commands.specs.Commands.{headers, commandOf}
-use Rattle.commands.specs.declared.Command.{Command}
-use Rattle.commands.specs.declared.Command.the-variants.{RS, KC, KR, KL, KF, KX, KD, GA, GL, KQ, Unknown}
-use Rattle.frames.specs.Frames.{headerOf}
+use Rattle.byte_strings.specs.Texts.{text}
+use Rattle.byte_strings.proofs.Flags.{nope}
+use Rattle.record_identities.specs.Identities.{nameIn}
+use Rattle.card_stored.specs.Stored.{inRow}
+use Rattle.message_replies.specs.Responses.{fieldsOf}
+use Rattle.message_commands.specs.Commands.{headers, commandOf}
+use Rattle.message_commands.specs.declared.Command.{Command}
+use Rattle.message_commands.specs.declared.Command.the-variants.{RS, KC, KR, KL, KF, KX, KD, GA, GL, KQ, Unknown}
+use Rattle.message_frames.specs.Frames.{headerOf}
 use Rattle.history.specs.Model.{kc, kr, kl, kf, kx, kd, rs, other, done, loaded, _⇒_}
 use Rattle.engine.specs.Requests.{isAmong, commandIn, fieldsIn, firstText, secondText, registerIn, recordIn, slotIn, kmcIdentityIn, cardIn}
 use Rattle.engine.specs.Questions.{groupIn, revisionIn}

@@ -9,34 +9,34 @@ use native.Mathlib.Omega.{arith}
 use lib.Dec.{eqb, leb}
 use lib.ListN.{length, length-take}
 use borrow.Author.Tests.{leb-true, eqb-true}
-use Rattle.octets.specs.Strings.{sameBytes}
-use Rattle.octets.proofs.Flags.{nope, and-first, and-second, no, holds}
-use Rattle.octets.proofs.StringLaws.{same-equal}
-use Rattle.text.specs.Classes.{areAll}
-use Rattle.text.specs.Identifiers.{isIdentifier}
-use Rattle.text.proofs.Identify.{name-short}
-use Rattle.text.specs.declared.Class.the-variants.{Text, Printable}
-use Rattle.timestamp.specs.Timestamps.{isTimestamp}
-use Rattle.forms.specs.declared.Form.the-variants.{Name}
-use Rattle.forms.proofs.FormBounds.{in-form-text}
-use Rattle.fields.specs.Values.{Value, number, string, contentBytes, payloadBytes, areValues}
-use Rattle.identities.specs.Identities.{nameIn}
-use Rattle.key_records.specs.KeyRecords.{publicKeyInForm}
-use Rattle.frames.specs.Frames.{headerOf, answered as asAnswered}
-use Rattle.responses.specs.Responses.{Reply, replyBytes, replyTo, Says}
-use Rattle.responses.proofs.ResponseLaws.{reply-reads}
-use Rattle.commands.specs.Commands.{headers, named, commandOf}
-use Rattle.commands.specs.declared.Header.{Header as Named}
-use Rattle.commands.specs.declared.Command.{Command}
-use Rattle.commands.specs.declared.Command.the-variants.{RS, KC, KR, KL, KF, KX, KD, GA, GL, KQ, Unknown}
-use Rattle.rows.specs.Lists.{everyRow, distinctRows}
-use Rattle.rows.specs.Slots.{isSlotSound, isSameSlot}
-use Rattle.rows.specs.Registers.{isVacant, isRegisterSound, freeRegister}
-use Rattle.rows.specs.Sound.{areSound}
-use Rattle.rows.specs.RowReplies.{storedIn, slotNames, nameFields, queryFields}
-use Rattle.rows.specs.Supplements.{loadRequest, isIdentityRight, isLoadRequestRight, isWellFormed}
-use Rattle.rows.proofs.ListLaws.{every-at}
-use Rattle.rows.proofs.RowReplyLaws.{sequence-values, query-values, stored-values}
+use Rattle.byte_strings.specs.Strings.{sameBytes}
+use Rattle.byte_strings.proofs.Flags.{nope, and-first, and-second, no, holds}
+use Rattle.byte_strings.proofs.StringLaws.{same-equal}
+use Rattle.text_classes.specs.Classes.{areAll}
+use Rattle.text_classes.specs.Identifiers.{isIdentifier}
+use Rattle.text_classes.proofs.Identify.{name-short}
+use Rattle.text_classes.specs.declared.Class.the-variants.{Text, Printable}
+use Rattle.text_timestamps.specs.Timestamps.{isTimestamp}
+use Rattle.text_forms.specs.declared.Form.the-variants.{Name}
+use Rattle.text_forms.proofs.FormBounds.{in-form-text}
+use Rattle.field_values.specs.Values.{Value, number, string, contentBytes, payloadBytes, areValues}
+use Rattle.record_identities.specs.Identities.{nameIn}
+use Rattle.record_types.specs.KeyRecords.{publicKeyInForm}
+use Rattle.message_frames.specs.Frames.{headerOf, answered as asAnswered}
+use Rattle.message_replies.specs.Responses.{Reply, replyBytes, replyTo, Says}
+use Rattle.message_replies.proofs.ResponseLaws.{reply-reads}
+use Rattle.message_commands.specs.Commands.{headers, named, commandOf}
+use Rattle.message_commands.specs.declared.Header.{Header as Named}
+use Rattle.message_commands.specs.declared.Command.{Command}
+use Rattle.message_commands.specs.declared.Command.the-variants.{RS, KC, KR, KL, KF, KX, KD, GA, GL, KQ, Unknown}
+use Rattle.row_types.specs.Lists.{everyRow, distinctRows}
+use Rattle.row_types.specs.Slots.{isSlotSound, isSameSlot}
+use Rattle.row_types.specs.Registers.{isVacant, isRegisterSound, freeRegister}
+use Rattle.row_types.specs.Sound.{areSound}
+use Rattle.row_types.specs.RowReplies.{storedIn, slotNames, nameFields, queryFields}
+use Rattle.row_types.specs.Supplements.{loadRequest, isIdentityRight, isLoadRequestRight, isWellFormed}
+use Rattle.row_types.proofs.ListLaws.{every-at}
+use Rattle.row_types.proofs.RowReplyLaws.{sequence-values, query-values, stored-values}
 use Rattle.engine.specs.Refusals.{RefusalEntry, refusal}
 use Rattle.engine.specs.Requests.{commandIn, fieldsIn, isOneOfTen, registerIn, recordIn, slotIn, firstText, kmcIdentityIn}
 use Rattle.engine.specs.Questions.{Call, areCounts, slotNamed, registerNumbered, isFilled, questions, firstNo}

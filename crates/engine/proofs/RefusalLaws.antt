@@ -5,9 +5,9 @@ use mathlib.Core.Bool.{Bool, true, false, not}
 use mathlib.Core.List.{List, [], _++_}
 use mathlib.Core.Option.{Option, some, none}
 use Prim.Native.Nat.{ℕ}
-use Rattle.octets.proofs.Flags.{nope}
-use Rattle.frames.specs.Frames.{headerOf, answered}
-use Rattle.responses.specs.Responses.{Reply}
+use Rattle.byte_strings.proofs.Flags.{nope}
+use Rattle.message_frames.specs.Frames.{headerOf, answered}
+use Rattle.message_replies.specs.Responses.{Reply}
 use Rattle.engine.specs.Refusals.{Header, general, own, RefusalEntry, refusal}
 use Rattle.engine.specs.Requests.{commandIn, fieldsIn}
 use Rattle.engine.specs.Questions.{Call, Question, tableQuestions, messageQuestions, questions, firstNo}

@@ -8,26 +8,26 @@ use native.Mathlib.Omega.{arith}
 use lib.Dec.{eqb, leb}
 use lib.ListN.{length, take, length-append, length-take, length-map}
 use borrow.Author.Tests.{leb-true, le-leb, eqb-true, eq-eqb}
-use Rattle.octets.specs.Texts.{text}
-use Rattle.octets.specs.Strings.{isNot, run}
-use Rattle.octets.proofs.Flags.{and-first, and-second, and-both}
-use Rattle.octets.proofs.StringLaws.{run-le}
-use Rattle.text.specs.Classes.{areAll}
-use Rattle.text.specs.declared.Class.the-variants.{Hexadecimal}
-use Rattle.text.proofs.Identify.{name-short}
-use Rattle.timestamp.proofs.Plain.{timestamp-length}
-use Rattle.fields.specs.Values.{Value, number, string, octets, fieldBytes, payloadBytes}
+use Rattle.byte_strings.specs.Texts.{text}
+use Rattle.byte_strings.specs.Strings.{isNot, run}
+use Rattle.byte_strings.proofs.Flags.{and-first, and-second, and-both}
+use Rattle.byte_strings.proofs.StringLaws.{run-le}
+use Rattle.text_classes.specs.Classes.{areAll}
+use Rattle.text_classes.specs.declared.Class.the-variants.{Hexadecimal}
+use Rattle.text_classes.proofs.Identify.{name-short}
+use Rattle.text_timestamps.proofs.Plain.{timestamp-length}
+use Rattle.field_values.specs.Values.{Value, number, string, octets, fieldBytes, payloadBytes}
 use Rattle.field_writer.proofs.WriteLaws.{payload-append}
 use Rattle.field_writer.proofs.Lengths.{string-length, octets-length, number-short, payload-length}
-use Rattle.stored_cards.specs.Stored.{isStored}
-use Rattle.rows.specs.Lists.{everyRow, trimmed, rowsThat, numbersFrom}
-use Rattle.rows.specs.Slots.{hasState, kmcidOf, isSlotSound}
-use Rattle.rows.specs.Registers.{isVacant, isUnder, isRegisterSound}
-use Rattle.rows.specs.RowReplies.{storedIn, slotNames, nameFields, stateText, slotFields, registersUnder, numberFields, queryFields}
-use Rattle.rows.specs.declared.SlotRow.{SlotRow}
-use Rattle.rows.specs.declared.RegisterRow.{RegisterRow}
-use Rattle.rows.specs.declared.SlotState.the-variants.{Free, Pending, Loading}
-use Rattle.rows.proofs.RowReplyLaws.{notFree, sound-kmcid, sound-fingerprint, sound-tvp, every-sequence}
+use Rattle.card_stored.specs.Stored.{isStored}
+use Rattle.row_types.specs.Lists.{everyRow, trimmed, rowsThat, numbersFrom}
+use Rattle.row_types.specs.Slots.{hasState, kmcidOf, isSlotSound}
+use Rattle.row_types.specs.Registers.{isVacant, isUnder, isRegisterSound}
+use Rattle.row_types.specs.RowReplies.{storedIn, slotNames, nameFields, stateText, slotFields, registersUnder, numberFields, queryFields}
+use Rattle.row_types.specs.declared.SlotRow.{SlotRow}
+use Rattle.row_types.specs.declared.RegisterRow.{RegisterRow}
+use Rattle.row_types.specs.declared.SlotState.the-variants.{Free, Pending, Loading}
+use Rattle.row_types.proofs.RowReplyLaws.{notFree, sound-kmcid, sound-fingerprint, sound-tvp, every-sequence}
 
 -- a string field and fields after it
 pub after-string : (v : List ℕ) (vs : List Value) (a b : ℕ) → length v ≤ a → length (payloadBytes vs) ≤ b → length (payloadBytes (string v ∷ vs)) ≤ a + 2 + b

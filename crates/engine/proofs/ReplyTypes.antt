@@ -4,14 +4,14 @@ use mathlib.Core.Bool.{Bool, true, false, _||_}
 use mathlib.Core.List.{List, [], _∷_, map}
 use mathlib.Core.Option.{Option, none, some}
 use Prim.Native.Nat.{ℕ}
-use Rattle.octets.specs.Texts.{text}
-use Rattle.octets.proofs.Flags.{nope}
-use Rattle.fields.specs.Values.{Value, number, string}
-use Rattle.responses.specs.Responses.{Reply}
-use Rattle.commands.specs.declared.Command.{Command}
-use Rattle.commands.specs.declared.Command.the-variants.{RS, KC, KR, KL, KF, KX, KD, GA, GL, KQ, Unknown}
-use Rattle.rows.specs.Slots.{kmcidOf}
-use Rattle.rows.specs.RowReplies.{slotFields, registersUnder, queryFields}
+use Rattle.byte_strings.specs.Texts.{text}
+use Rattle.byte_strings.proofs.Flags.{nope}
+use Rattle.field_values.specs.Values.{Value, number, string}
+use Rattle.message_replies.specs.Responses.{Reply}
+use Rattle.message_commands.specs.declared.Command.{Command}
+use Rattle.message_commands.specs.declared.Command.the-variants.{RS, KC, KR, KL, KF, KX, KD, GA, GL, KQ, Unknown}
+use Rattle.row_types.specs.Slots.{kmcidOf}
+use Rattle.row_types.specs.RowReplies.{slotFields, registersUnder, queryFields}
 use Rattle.engine.specs.FieldTypes.{Number, String, areOfTypes, messages}
 use Rattle.engine.specs.Refusals.{Header, general, own, RefusalEntry, refusal}
 use Rattle.engine.specs.Requests.{areFieldsOf, commandIn, fieldsIn, recordIn, slotIn}

@@ -7,30 +7,30 @@ use Prim.Native.Nat.{ℕ, _≤_}
 use lib.Dec.{eqb, leb}
 use lib.ListN.{length, getD, List·getD-map}
 use borrow.Author.Tests.{leb-true, eqb-true}
-use Rattle.octets.specs.Strings.{sameBytes, isNot, allOf}
-use Rattle.octets.proofs.Flags.{nope, and-first, and-second, no, holds}
-use Rattle.octets.proofs.StringLaws.{same-self, same-equal}
-use Rattle.text.specs.Classes.{areAll, isAlphanumeric, isMark}
-use Rattle.text.specs.Identifiers.{isIdentifier}
-use Rattle.text.specs.declared.Class.the-variants.{Identifier}
-use Rattle.text.proofs.ClassLaws.{class-plain}
-use Rattle.decimals.specs.Decimals.{isNumber, isUnpadded}
-use Rattle.forms.specs.Forms.{inForm}
-use Rattle.forms.specs.declared.Form.the-variants.{Hex}
-use Rattle.attributes.specs.Table.{SGC, KRN, KSL, table}
-use Rattle.cards.specs.Entries.{orElse, entryBytes}
-use Rattle.incoming_cards.specs.Incoming.{isIncoming}
-use Rattle.stored_cards.specs.Stored.{loadValues, storedCard, inRow}
+use Rattle.byte_strings.specs.Strings.{sameBytes, isNot, allOf}
+use Rattle.byte_strings.proofs.Flags.{nope, and-first, and-second, no, holds}
+use Rattle.byte_strings.proofs.StringLaws.{same-self, same-equal}
+use Rattle.text_classes.specs.Classes.{areAll, isAlphanumeric, isMark}
+use Rattle.text_classes.specs.Identifiers.{isIdentifier}
+use Rattle.text_classes.specs.declared.Class.the-variants.{Identifier}
+use Rattle.text_classes.proofs.ClassLaws.{class-plain}
+use Rattle.text_decimals.specs.Decimals.{isNumber, isUnpadded}
+use Rattle.text_forms.specs.Forms.{inForm}
+use Rattle.text_forms.specs.declared.Form.the-variants.{Hex}
+use Rattle.card_attributes.specs.Table.{SGC, KRN, KSL, table}
+use Rattle.card_entries.specs.Entries.{orElse, entryBytes}
+use Rattle.card_incoming.specs.Incoming.{isIncoming}
+use Rattle.card_stored.specs.Stored.{loadValues, storedCard, inRow}
 use Rattle.card_laws.proofs.Incoming.{sgc-back, krn-back, ksl-back}
-use Rattle.rows.specs.Lists.{trimmed}
-use Rattle.rows.specs.Slots.{stateNumber, isZeroSlot, hasState, kmcidOf, isNamed, isFilledSlot, isSlotSound, isSameSlot, freeSlot, filledSlot, movedSlot, resetSlot}
-use Rattle.rows.specs.Registers.{isVacant, attributeOf, isKeyOf, isUnder, isRegisterSound, freeRegister, filledRegister, withoutSlot}
-use Rattle.rows.specs.declared.SlotRow.{SlotRow}
-use Rattle.rows.specs.declared.RegisterRow.{RegisterRow}
-use Rattle.rows.specs.declared.SlotState.{SlotState}
-use Rattle.rows.specs.declared.SlotState.the-variants.{Free, Pending, Loading, Idle}
-use Rattle.rows.proofs.ListLaws.{trimmed-padded, trimmed-all}
-use Rattle.rows.proofs.FreeSlots.{free-is-zero}
+use Rattle.row_types.specs.Lists.{trimmed}
+use Rattle.row_types.specs.Slots.{stateNumber, isZeroSlot, hasState, kmcidOf, isNamed, isFilledSlot, isSlotSound, isSameSlot, freeSlot, filledSlot, movedSlot, resetSlot}
+use Rattle.row_types.specs.Registers.{isVacant, attributeOf, isKeyOf, isUnder, isRegisterSound, freeRegister, filledRegister, withoutSlot}
+use Rattle.row_types.specs.declared.SlotRow.{SlotRow}
+use Rattle.row_types.specs.declared.RegisterRow.{RegisterRow}
+use Rattle.row_types.specs.declared.SlotState.{SlotState}
+use Rattle.row_types.specs.declared.SlotState.the-variants.{Free, Pending, Loading, Idle}
+use Rattle.row_types.proofs.ListLaws.{trimmed-padded, trimmed-all}
+use Rattle.row_types.proofs.FreeSlots.{free-is-zero}
 use Rattle.history.specs.Model.{State, free, used, vacant, key, dropKey, stopped}
 use Rattle.engine.specs.Questions.{groupIn, revisionIn}
 use Rattle.engine.specs.Words.{stateIn, slotIs, registerIs}

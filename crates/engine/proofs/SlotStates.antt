@@ -8,21 +8,21 @@ use native.Mathlib.Omega.{arith}
 use lib.Dec.{eqb}
 use lib.ListN.{length, getD, set}
 use lib.Seq.{getD-set-same}
-use Rattle.octets.proofs.Flags.{nope, and-first, and-second, no, holds}
-use Rattle.octets.proofs.StringLaws.{same-self}
-use Rattle.text.specs.Identifiers.{isIdentifier}
-use Rattle.fields.specs.Values.{Value}
-use Rattle.identities.specs.Identities.{nameIn, fingerprintIn}
-use Rattle.key_records.specs.KeyRecords.{publicKeyInForm}
-use Rattle.commands.specs.declared.Command.{Command}
-use Rattle.commands.specs.declared.Command.the-variants.{RS, KC, KR, KL, KF, KX, KD, GA, GL, KQ, Unknown}
-use Rattle.rows.specs.Lists.{someRow, everyRow, distinctRows, firstFrom}
-use Rattle.rows.specs.Slots.{stateNumber, hasState, kmcidOf, isNamed, isSlotSound, isSameSlot, freeSlot, filledSlot, movedSlot}
-use Rattle.rows.specs.Sound.{areSound}
-use Rattle.rows.specs.declared.SlotRow.{SlotRow}
-use Rattle.rows.specs.declared.SlotState.{SlotState}
-use Rattle.rows.specs.declared.SlotState.the-variants.{Free, Pending, Loading, Idle}
-use Rattle.rows.proofs.ListLaws.{trimmed-padded, trimmed-all}
+use Rattle.byte_strings.proofs.Flags.{nope, and-first, and-second, no, holds}
+use Rattle.byte_strings.proofs.StringLaws.{same-self}
+use Rattle.text_classes.specs.Identifiers.{isIdentifier}
+use Rattle.field_values.specs.Values.{Value}
+use Rattle.record_identities.specs.Identities.{nameIn, fingerprintIn}
+use Rattle.record_types.specs.KeyRecords.{publicKeyInForm}
+use Rattle.message_commands.specs.declared.Command.{Command}
+use Rattle.message_commands.specs.declared.Command.the-variants.{RS, KC, KR, KL, KF, KX, KD, GA, GL, KQ, Unknown}
+use Rattle.row_types.specs.Lists.{someRow, everyRow, distinctRows, firstFrom}
+use Rattle.row_types.specs.Slots.{stateNumber, hasState, kmcidOf, isNamed, isSlotSound, isSameSlot, freeSlot, filledSlot, movedSlot}
+use Rattle.row_types.specs.Sound.{areSound}
+use Rattle.row_types.specs.declared.SlotRow.{SlotRow}
+use Rattle.row_types.specs.declared.SlotState.{SlotState}
+use Rattle.row_types.specs.declared.SlotState.the-variants.{Free, Pending, Loading, Idle}
+use Rattle.row_types.proofs.ListLaws.{trimmed-padded, trimmed-all}
 use Rattle.engine.specs.Requests.{isAmong, commandIn, fieldsIn, recordIn, kmcIdentityIn, slotIn, firstText}
 use Rattle.engine.specs.Questions.{Call, slotPlace, freePlace, placeElse, sessionPlace, slotNamed, questions, firstNo}
 use Rattle.engine.specs.Answers.{slotsMoved, slotsPending, slotsWithout, answered, listed, effect, refused, answerTo, answerOf}

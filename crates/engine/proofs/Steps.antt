@@ -10,38 +10,38 @@ use native.Mathlib.Numerals.{add-one}
 use lib.Dec.{eqb, leb}
 use lib.ListN.{length, getD, set, length-map}
 use borrow.Author.Tests.{leb-true, le-leb, eqb-true}
-use Rattle.octets.proofs.Flags.{nope, and-first, and-second, no, holds}
-use Rattle.text.specs.Classes.{areAll}
-use Rattle.timestamp.specs.Timestamps.{isTimestamp}
-use Rattle.text.specs.Identifiers.{isIdentifier}
-use Rattle.text.specs.declared.Class.the-variants.{Text}
-use Rattle.decimals.specs.Decimals.{isNumber, isUnpadded}
-use Rattle.fields.specs.Values.{Value, number, string, areValues}
-use Rattle.forms.specs.Forms.{inForm}
-use Rattle.forms.specs.declared.Form.the-variants.{Hex, HexSome}
-use Rattle.frames.specs.Frames.{isWhole, headerOf}
-use Rattle.responses.specs.Responses.{replyTo, responseBytes, fieldsOf}
-use Rattle.responses.proofs.ResponseLaws.{reply-fields, answered-five}
-use Rattle.incoming_cards.specs.Incoming.{isIncoming}
-use Rattle.stored_cards.specs.Stored.{loadValues}
-use Rattle.records.specs.Records.{field}
-use Rattle.identities.specs.Identities.{colon, nameIn, fingerprintIn, identityInForm}
-use Rattle.key_records.specs.KeyRecords.{bar, publicKeyInForm, keyInForm}
-use Rattle.stored_cards.specs.Stored.{inRow}
+use Rattle.byte_strings.proofs.Flags.{nope, and-first, and-second, no, holds}
+use Rattle.text_classes.specs.Classes.{areAll}
+use Rattle.text_timestamps.specs.Timestamps.{isTimestamp}
+use Rattle.text_classes.specs.Identifiers.{isIdentifier}
+use Rattle.text_classes.specs.declared.Class.the-variants.{Text}
+use Rattle.text_decimals.specs.Decimals.{isNumber, isUnpadded}
+use Rattle.field_values.specs.Values.{Value, number, string, areValues}
+use Rattle.text_forms.specs.Forms.{inForm}
+use Rattle.text_forms.specs.declared.Form.the-variants.{Hex, HexSome}
+use Rattle.message_frames.specs.Frames.{isWhole, headerOf}
+use Rattle.message_replies.specs.Responses.{replyTo, responseBytes, fieldsOf}
+use Rattle.message_replies.proofs.ResponseLaws.{reply-fields, answered-five}
+use Rattle.card_incoming.specs.Incoming.{isIncoming}
+use Rattle.card_stored.specs.Stored.{loadValues}
+use Rattle.record_parser.specs.Records.{field}
+use Rattle.record_identities.specs.Identities.{colon, nameIn, fingerprintIn, identityInForm}
+use Rattle.record_types.specs.KeyRecords.{bar, publicKeyInForm, keyInForm}
+use Rattle.card_stored.specs.Stored.{inRow}
 use Rattle.card_laws.proofs.Incoming.{stored-text, stored-short}
-use Rattle.commands.specs.declared.Command.{Command}
-use Rattle.commands.specs.declared.Command.the-variants.{RS, KC, KR, KL, KF, KX, KD, GA, GL, KQ, Unknown}
-use Rattle.attributes.specs.Table.{SGC, KRN, KSL}
-use Rattle.rows.specs.Lists.{everyRow}
-use Rattle.rows.specs.Slots.{stateNumber, hasState, isSlotSound, freeSlot, filledSlot, movedSlot, resetSlot}
-use Rattle.rows.specs.Registers.{isVacant, attributeOf, freeRegister, filledRegister, withoutSlot}
-use Rattle.rows.specs.Sound.{areSound}
-use Rattle.rows.specs.Supplements.{isWellFormed, isIdentityRight, isLoadRequestRight}
-use Rattle.rows.specs.declared.SlotRow.{SlotRow}
-use Rattle.rows.specs.declared.RegisterRow.{RegisterRow}
-use Rattle.rows.specs.declared.SlotState.{SlotState}
-use Rattle.rows.specs.declared.SlotState.the-variants.{Pending, Loading, Idle}
-use Rattle.rows.proofs.ListLaws.{map-set, map-sweep, every-true}
+use Rattle.message_commands.specs.declared.Command.{Command}
+use Rattle.message_commands.specs.declared.Command.the-variants.{RS, KC, KR, KL, KF, KX, KD, GA, GL, KQ, Unknown}
+use Rattle.card_attributes.specs.Table.{SGC, KRN, KSL}
+use Rattle.row_types.specs.Lists.{everyRow}
+use Rattle.row_types.specs.Slots.{stateNumber, hasState, isSlotSound, freeSlot, filledSlot, movedSlot, resetSlot}
+use Rattle.row_types.specs.Registers.{isVacant, attributeOf, freeRegister, filledRegister, withoutSlot}
+use Rattle.row_types.specs.Sound.{areSound}
+use Rattle.row_types.specs.Supplements.{isWellFormed, isIdentityRight, isLoadRequestRight}
+use Rattle.row_types.specs.declared.SlotRow.{SlotRow}
+use Rattle.row_types.specs.declared.RegisterRow.{RegisterRow}
+use Rattle.row_types.specs.declared.SlotState.{SlotState}
+use Rattle.row_types.specs.declared.SlotState.the-variants.{Pending, Loading, Idle}
+use Rattle.row_types.proofs.ListLaws.{map-set, map-sweep, every-true}
 use Rattle.history.specs.Model.{pending, loading, idle, used, free, key, kl, loaded, Item, _⇒_, dropKey, dropSlot, stopped, reset}
 use Rattle.history.specs.Step.{Step, refuses, reads, starts, responds, loads, finishes, deletes, clears, resets}
 use Rattle.engine.specs.Requests.{commandIn, fieldsIn, isOneOfTen, areFieldsOf, registerIn, recordIn, kmcIdentityIn, slotIn, cardIn, firstText}

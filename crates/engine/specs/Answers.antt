@@ -3,22 +3,22 @@ use Prim.Native.Nat.{ℕ, _+_, _-_}
 use mathlib.Core.List.{List, [], _∷_, _++_, map}
 use mathlib.Core.Option.{Option, none, some}
 use lib.ListN.{length, set, drop}
-use Rattle.octets.specs.Texts.{text}
-use Rattle.fields.specs.Values.{Value, number, string}
-use Rattle.frames.specs.Frames.{headerOf}
-use Rattle.responses.specs.Responses.{Reply, replyBytes, replyTo}
-use Rattle.identities.specs.Identities.{fingerprintIn}
-use Rattle.stored_cards.specs.Stored.{loadValues, storedCard}
-use Rattle.commands.specs.declared.Command.{Command}
-use Rattle.commands.specs.declared.Command.the-variants.{RS, KC, KR, KL, KF, KX, KD, GA, GL, KQ, Unknown}
-use Rattle.rows.specs.Slots.{freeSlot, filledSlot, movedSlot, resetSlot}
-use Rattle.rows.specs.Registers.{freeRegister, filledRegister, withoutSlot}
-use Rattle.rows.specs.RowReplies.{storedIn, nameFields, queryFields}
-use Rattle.rows.specs.Supplements.{loadRequest}
-use Rattle.rows.specs.declared.SlotRow.{SlotRow}
-use Rattle.rows.specs.declared.RegisterRow.{RegisterRow}
-use Rattle.rows.specs.declared.SlotState.{SlotState}
-use Rattle.rows.specs.declared.SlotState.the-variants.{Free, Pending, Loading, Idle}
+use Rattle.byte_strings.specs.Texts.{text}
+use Rattle.field_values.specs.Values.{Value, number, string}
+use Rattle.message_frames.specs.Frames.{headerOf}
+use Rattle.message_replies.specs.Responses.{Reply, replyBytes, replyTo}
+use Rattle.record_identities.specs.Identities.{fingerprintIn}
+use Rattle.card_stored.specs.Stored.{loadValues, storedCard}
+use Rattle.message_commands.specs.declared.Command.{Command}
+use Rattle.message_commands.specs.declared.Command.the-variants.{RS, KC, KR, KL, KF, KX, KD, GA, GL, KQ, Unknown}
+use Rattle.row_types.specs.Slots.{freeSlot, filledSlot, movedSlot, resetSlot}
+use Rattle.row_types.specs.Registers.{freeRegister, filledRegister, withoutSlot}
+use Rattle.row_types.specs.RowReplies.{storedIn, nameFields, queryFields}
+use Rattle.row_types.specs.Supplements.{loadRequest}
+use Rattle.row_types.specs.declared.SlotRow.{SlotRow}
+use Rattle.row_types.specs.declared.RegisterRow.{RegisterRow}
+use Rattle.row_types.specs.declared.SlotState.{SlotState}
+use Rattle.row_types.specs.declared.SlotState.the-variants.{Free, Pending, Loading, Idle}
 use Rattle.engine.specs.Refusals.{Header, general, own, RefusalEntry, refusal}
 use Rattle.engine.specs.Requests.{commandIn, fieldsIn, registerIn, recordIn, kmcIdentityIn, slotIn, cardIn}
 use Rattle.engine.specs.Questions.{Call, slotPlace, placeIn, sessionPlace, storePlace, slotNamed}

@@ -6,10 +6,10 @@ use mathlib.Core.List.{List, _++_}
 use lib.ListN.{length, drop}
 use denote.Ref.{RefT, now}
 use denote.Triple.Both.{Both}
-use Rattle.rows.specs.Places.{slotRows, registerRows}
-use Rattle.rows.specs.RowReplies.{InSomeSequence}
-use Rattle.rows.specs.declared.Tables.{Tables}
-use Rattle.rows.specs.declared.Supplement.{Supplement}
+use Rattle.row_types.specs.Places.{slotRows, registerRows}
+use Rattle.row_types.specs.RowReplies.{InSomeSequence}
+use Rattle.row_types.specs.declared.Tables.{Tables}
+use Rattle.row_types.specs.declared.Supplement.{Supplement}
 use Rattle.engine.specs.Questions.{Call}
 use Rattle.engine.specs.Answers.{Answer, response, answerOf, bufferAfter}
 use Rattle.engine.specs.declared.Outcome.{Outcome}

@@ -3,9 +3,9 @@
 use Prim.Native.Nat.{ℕ, _-_}
 use mathlib.Core.List.{List, _++_}
 use mathlib.Core.Option.{Option, none, some}
-use Rattle.fields.specs.Values.{Value}
-use Rattle.commands.specs.declared.Command.{Command}
-use Rattle.commands.specs.declared.Command.the-variants.{RS, KC, KR, KL, KF, KX, KD, GA, GL, KQ, Unknown}
+use Rattle.field_values.specs.Values.{Value}
+use Rattle.message_commands.specs.declared.Command.{Command}
+use Rattle.message_commands.specs.declared.Command.the-variants.{RS, KC, KR, KL, KF, KX, KD, GA, GL, KQ, Unknown}
 use Rattle.engine.specs.Requests.{commandIn, fieldsIn, registerIn, recordIn, slotIn, cardIn}
 use Rattle.engine.specs.Questions.{Call, Question, slotPlace, placeIn, sessionPlace, slotNamed}
 use Rattle.engine.specs.Questions.{payloadQuestions, rowQuestions, questions, firstNo}

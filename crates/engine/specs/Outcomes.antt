@@ -2,7 +2,7 @@
 -- state that a session command leaves.
 use Prim.Native.Nat.{ℕ}
 use mathlib.Core.Option.{Option, none, some}
-use Rattle.rows.specs.Slots.{stateNumber}
+use Rattle.row_types.specs.Slots.{stateNumber}
 use Rattle.engine.specs.Refusals.{refusal}
 use Rattle.engine.specs.declared.Outcome.{Outcome}
 use Rattle.engine.specs.declared.Outcome.the-variants.{Accepted, Done, Refused}

@@ -5,27 +5,27 @@ use mathlib.Core.List.{List, [], _∷_, _++_}
 use mathlib.Core.Option.{Option, none, some}
 use lib.Dec.{eqb, leb}
 use lib.ListN.{length, getD}
-use Rattle.octets.specs.Strings.{sameBytes}
-use Rattle.octets.specs.Texts.{all}
-use Rattle.timestamp.specs.Timestamps.{timestampOf, isLater}
-use Rattle.cards.specs.Entries.{valueOf, orElse}
-use Rattle.attributes.specs.Table.{SGC, KRN}
-use Rattle.identities.specs.Identities.{fingerprintIn}
-use Rattle.key_records.specs.KeyRecords.{parsesPublicKey, parsesResponse, parsesKey}
-use Rattle.key_records.specs.KeyRecords.{publicKeyInForm, responseInForm, keyInForm}
-use Rattle.fields.specs.Values.{Value}
-use Rattle.frames.specs.Frames.{isWhole, isChecked}
-use Rattle.commands.specs.declared.Command.{Command}
-use Rattle.commands.specs.declared.Command.the-variants.{KC, KR, KL, KF, KX, KD, GA, KQ}
-use Rattle.rows.specs.Lists.{firstFrom}
-use Rattle.rows.specs.Slots.{hasState, isNamed, freeSlot}
-use Rattle.rows.specs.Registers.{isVacant, isKeyOf, freeRegister}
-use Rattle.rows.specs.Sound.{areSound}
-use Rattle.rows.specs.Supplements.{ownIdentity, isWellFormed}
-use Rattle.rows.specs.declared.SlotRow.{SlotRow}
-use Rattle.rows.specs.declared.RegisterRow.{RegisterRow}
-use Rattle.rows.specs.declared.SlotState.the-variants.{Free, Pending, Loading}
-use Rattle.rows.specs.declared.Supplement.{Supplement}
+use Rattle.byte_strings.specs.Strings.{sameBytes}
+use Rattle.byte_strings.specs.Texts.{all}
+use Rattle.text_timestamps.specs.Timestamps.{timestampOf, isLater}
+use Rattle.card_entries.specs.Entries.{valueOf, orElse}
+use Rattle.card_attributes.specs.Table.{SGC, KRN}
+use Rattle.record_identities.specs.Identities.{fingerprintIn}
+use Rattle.record_types.specs.KeyRecords.{parsesPublicKey, parsesResponse, parsesKey}
+use Rattle.record_types.specs.KeyRecords.{publicKeyInForm, responseInForm, keyInForm}
+use Rattle.field_values.specs.Values.{Value}
+use Rattle.message_frames.specs.Frames.{isWhole, isChecked}
+use Rattle.message_commands.specs.declared.Command.{Command}
+use Rattle.message_commands.specs.declared.Command.the-variants.{KC, KR, KL, KF, KX, KD, GA, KQ}
+use Rattle.row_types.specs.Lists.{firstFrom}
+use Rattle.row_types.specs.Slots.{hasState, isNamed, freeSlot}
+use Rattle.row_types.specs.Registers.{isVacant, isKeyOf, freeRegister}
+use Rattle.row_types.specs.Sound.{areSound}
+use Rattle.row_types.specs.Supplements.{ownIdentity, isWellFormed}
+use Rattle.row_types.specs.declared.SlotRow.{SlotRow}
+use Rattle.row_types.specs.declared.RegisterRow.{RegisterRow}
+use Rattle.row_types.specs.declared.SlotState.the-variants.{Free, Pending, Loading}
+use Rattle.row_types.specs.declared.Supplement.{Supplement}
 use Rattle.engine.specs.Requests.{isAmong, commandIn, fieldsIn, isOneOfTen, areFieldsOf}
 use Rattle.engine.specs.Requests.{registerIn, recordIn, slotIn}
 use Rattle.engine.specs.Requests.{kmcIdentityIn, moduleIdentityIn, expiryIn, tvpIn, tagIn, cardIn}

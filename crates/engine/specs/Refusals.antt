@@ -2,8 +2,8 @@
 use Prim.Native.Nat.{ℕ, _+_, _/_, _%_}
 use mathlib.Core.List.{List, [], _∷_, _++_}
 use mathlib.Core.Option.{Option, none, some}
-use Rattle.octets.specs.Texts.{text}
-use Rattle.fields.specs.Values.{Value, string}
+use Rattle.byte_strings.specs.Texts.{text}
+use Rattle.field_values.specs.Values.{Value, string}
 use Rattle.engine.specs.declared.Refusal.{Refusal}
 use Rattle.engine.specs.declared.Refusal.the-variants.{
   RowCounts,

@@ -6,14 +6,14 @@ use mathlib.Core.List.{List, [], _∷_}
 use mathlib.Core.Option.{none}
 use lib.Dec.{eqb}
 use lib.ListN.{getD}
-use Rattle.fields.specs.Values.{Value, number, string, date, octets, bad, valuesOf}
-use Rattle.records.specs.Records.{field}
-use Rattle.identities.specs.Identities.{nameIn}
-use Rattle.key_records.specs.KeyRecords.{bar}
-use Rattle.commands.specs.Commands.{commandOf}
-use Rattle.commands.specs.declared.Command.{Command}
-use Rattle.commands.specs.declared.Command.the-variants.{RS, KC, KR, KL, KF, KX, KD, GA, GL, KQ, Unknown}
-use Rattle.frames.specs.Frames.{headerOf, payloadOf}
+use Rattle.field_values.specs.Values.{Value, number, string, date, octets, bad, valuesOf}
+use Rattle.record_parser.specs.Records.{field}
+use Rattle.record_identities.specs.Identities.{nameIn}
+use Rattle.record_types.specs.KeyRecords.{bar}
+use Rattle.message_commands.specs.Commands.{commandOf}
+use Rattle.message_commands.specs.declared.Command.{Command}
+use Rattle.message_commands.specs.declared.Command.the-variants.{RS, KC, KR, KL, KF, KX, KD, GA, GL, KQ, Unknown}
+use Rattle.message_frames.specs.Frames.{headerOf, payloadOf}
 use Rattle.engine.specs.FieldTypes.{messages, areOfTypes}
 
 abbrev commandNumber : Command → ℕ

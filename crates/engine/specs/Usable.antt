@@ -2,14 +2,14 @@
 use Prim.Native.Nat.{ℕ}
 use mathlib.Core.Bool.{Bool}
 use mathlib.Core.List.{[], _∷_}
-use Rattle.octets.specs.Texts.{all}
-use Rattle.attributes.specs.Table.{KSL}
-use Rattle.rows.specs.Slots.{hasState}
-use Rattle.rows.specs.Registers.{attributeOf}
-use Rattle.rows.specs.Sound.{areSound}
-use Rattle.rows.specs.Places.{slotRows, registerRows}
-use Rattle.rows.specs.declared.SlotState.the-variants.{Idle}
-use Rattle.rows.specs.declared.Tables.{Tables}
+use Rattle.byte_strings.specs.Texts.{all}
+use Rattle.card_attributes.specs.Table.{KSL}
+use Rattle.row_types.specs.Slots.{hasState}
+use Rattle.row_types.specs.Registers.{attributeOf}
+use Rattle.row_types.specs.Sound.{areSound}
+use Rattle.row_types.specs.Places.{slotRows, registerRows}
+use Rattle.row_types.specs.declared.SlotState.the-variants.{Idle}
+use Rattle.row_types.specs.declared.Tables.{Tables}
 use Rattle.engine.specs.Questions.{areCounts, slotNamed, registerNumbered, isFilled}
 
 -- a register's key may vend exactly when its slot is IDLE; a register that is 0, beyond the rows or free, unsound rows

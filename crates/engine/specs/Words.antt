@@ -5,18 +5,18 @@ use mathlib.Core.Bool.{Bool, cond}
 use mathlib.Core.List.{List, map}
 use lib.Dec.{eqb}
 use lib.ListN.{length, take, replicate}
-use Rattle.octets.specs.Strings.{sameBytes}
-use Rattle.attributes.specs.Table.{SGC, KRN, KSL}
-use Rattle.fields.specs.Values.{Value}
-use Rattle.responses.specs.Responses.{statusOf, fieldsOf}
-use Rattle.stored_cards.specs.Stored.{inRow}
-use Rattle.commands.specs.declared.Command.{Command}
-use Rattle.commands.specs.declared.Command.the-variants.{RS, KC, KR, KL, KF, KX, KD, GA, GL, KQ, Unknown}
-use Rattle.rows.specs.Slots.{isZeroSlot, kmcidOf, freeSlot}
-use Rattle.rows.specs.Registers.{isVacant, attributeOf, freeRegister}
-use Rattle.rows.specs.declared.SlotRow.{SlotRow}
-use Rattle.rows.specs.declared.RegisterRow.{RegisterRow}
-use Rattle.rows.specs.declared.Supplement.{Supplement}
+use Rattle.byte_strings.specs.Strings.{sameBytes}
+use Rattle.card_attributes.specs.Table.{SGC, KRN, KSL}
+use Rattle.field_values.specs.Values.{Value}
+use Rattle.message_replies.specs.Responses.{statusOf, fieldsOf}
+use Rattle.card_stored.specs.Stored.{inRow}
+use Rattle.message_commands.specs.declared.Command.{Command}
+use Rattle.message_commands.specs.declared.Command.the-variants.{RS, KC, KR, KL, KF, KX, KD, GA, GL, KQ, Unknown}
+use Rattle.row_types.specs.Slots.{isZeroSlot, kmcidOf, freeSlot}
+use Rattle.row_types.specs.Registers.{isVacant, attributeOf, freeRegister}
+use Rattle.row_types.specs.declared.SlotRow.{SlotRow}
+use Rattle.row_types.specs.declared.RegisterRow.{RegisterRow}
+use Rattle.row_types.specs.declared.Supplement.{Supplement}
 use Rattle.history.specs.Model.{
   State,
   pending,

@@ -4,9 +4,9 @@ use mathlib.Core.List.{List, [], _∷_}
 use Prim.Native.Nat.{ℕ, _+_, _≤_}
 use native.Mathlib.Omega.{arith}
 use lib.ListN.{length, length-append}
-use Rattle.decimal_writer.specs.Digits.{decimalBytes}
-use Rattle.decimal_writer.proofs.RoundTrip.{written-short}
-use Rattle.fields.specs.Values.{Value, number, string, octets, contentBytes, fieldBytes, payloadBytes}
+use Rattle.text_decimal_writer.specs.Digits.{decimalBytes}
+use Rattle.text_decimal_writer.proofs.RoundTrip.{written-short}
+use Rattle.field_values.specs.Values.{Value, number, string, octets, contentBytes, fieldBytes, payloadBytes}
 
 content-length : (t : ℕ) (v : List ℕ) → length (contentBytes t v) ≡ length v + 2
 unfolding contentBytes

@@ -5,16 +5,16 @@ use mathlib.Core.List.{List, [], _∷_}
 use Prim.Native.Nat.{ℕ, _%_}
 use lib.Dec.{eqb}
 use lib.ListN.{length}
-use Rattle.octets.proofs.Flags.{nope, and-first, and-second}
-use Rattle.octets.proofs.StringLaws.{all-append}
-use Rattle.text.specs.Classes.{isOf, areAll}
-use Rattle.text.specs.declared.Class.{Class}
-use Rattle.text.specs.declared.Class.the-variants.{Digit, Hexadecimal, Text, Printable}
-use Rattle.text.proofs.Printable.{Within, within-class, digit-text, hex-text, text-printable}
-use Rattle.decimal_writer.specs.Digits.{decimalBytes}
-use Rattle.decimal_writer.proofs.RoundTrip.{written-digits}
-use Rattle.timestamp.proofs.Plain.{date-digits}
-use Rattle.fields.specs.Values.{Value, number, string, date, octets, bad, isOctets, contentBytes, fieldBytes, payloadBytes, isValue, areValues}
+use Rattle.byte_strings.proofs.Flags.{nope, and-first, and-second}
+use Rattle.byte_strings.proofs.StringLaws.{all-append}
+use Rattle.text_classes.specs.Classes.{isOf, areAll}
+use Rattle.text_classes.specs.declared.Class.{Class}
+use Rattle.text_classes.specs.declared.Class.the-variants.{Digit, Hexadecimal, Text, Printable}
+use Rattle.text_classes.proofs.Printable.{Within, within-class, digit-text, hex-text, text-printable}
+use Rattle.text_decimal_writer.specs.Digits.{decimalBytes}
+use Rattle.text_decimal_writer.proofs.RoundTrip.{written-digits}
+use Rattle.text_timestamps.proofs.Plain.{date-digits}
+use Rattle.field_values.specs.Values.{Value, number, string, date, octets, bad, isOctets, contentBytes, fieldBytes, payloadBytes, isValue, areValues}
 
 -- a field whose content is of a class within text
 module _ (t : ℕ) (p : isOf Printable t ≡ true) (k : Class) (h : Within k Text) (v : List ℕ) (e : areAll k v ≡ true) where

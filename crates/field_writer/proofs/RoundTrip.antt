@@ -7,16 +7,16 @@ use native.Mathlib.Omega.{arith}
 use lib.Dec.{eqb}
 use lib.ListN.{length}
 use borrow.Author.Tests.{leb-true}
-use Rattle.octets.specs.Strings.{isNot, allOf}
-use Rattle.octets.proofs.Flags.{nope, and-first, and-second}
-use Rattle.pieces.proofs.PieceLaws.{pieces-cons, ended-cons}
-use Rattle.text.specs.Classes.{areAll}
-use Rattle.text.specs.declared.Class.the-variants.{Digit, Text, Hexadecimal}
-use Rattle.text.proofs.ClassLaws.{class-plain}
-use Rattle.decimal_writer.specs.Digits.{decimalBytes}
-use Rattle.decimal_writer.proofs.RoundTrip.{written-reads, written-number, written-digits}
-use Rattle.timestamp.proofs.Plain.{date-plain}
-use Rattle.fields.specs.Values.{Value, number, string, date, octets, bad, isOctets, typed, valueOf, valuesOf, contentBytes, fieldBytes, payloadBytes, isValue, areValues}
+use Rattle.byte_strings.specs.Strings.{isNot, allOf}
+use Rattle.byte_strings.proofs.Flags.{nope, and-first, and-second}
+use Rattle.byte_pieces.proofs.PieceLaws.{pieces-cons, ended-cons}
+use Rattle.text_classes.specs.Classes.{areAll}
+use Rattle.text_classes.specs.declared.Class.the-variants.{Digit, Text, Hexadecimal}
+use Rattle.text_classes.proofs.ClassLaws.{class-plain}
+use Rattle.text_decimal_writer.specs.Digits.{decimalBytes}
+use Rattle.text_decimal_writer.proofs.RoundTrip.{written-reads, written-number, written-digits}
+use Rattle.text_timestamps.proofs.Plain.{date-plain}
+use Rattle.field_values.specs.Values.{Value, number, string, date, octets, bad, isOctets, typed, valueOf, valuesOf, contentBytes, fieldBytes, payloadBytes, isValue, areValues}
 
 -- a piece that holds no ~ is the first field
 values-cons : (p r : List ℕ) → allOf (isNot 126) p ≡ true → valuesOf (p ++ (126 ∷ r)) ≡ valueOf p ∷ valuesOf r

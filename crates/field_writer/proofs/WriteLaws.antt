@@ -2,9 +2,9 @@
 use mathlib.Core.Path.{_≡_, refl, sym, ap, _∙_}
 use mathlib.Core.List.{List, [], _∷_, _++_, append-assoc}
 use Prim.Native.Nat.{ℕ}
-use Rattle.octets.specs.Wrote.{Wrote}
-use Rattle.octets.proofs.Writes.{then}
-use Rattle.fields.specs.Values.{Value, contentBytes, fieldBytes, payloadBytes}
+use Rattle.byte_strings.specs.Wrote.{Wrote}
+use Rattle.byte_strings.proofs.Writes.{then}
+use Rattle.field_values.specs.Values.{Value, contentBytes, fieldBytes, payloadBytes}
 
 -- put_content, put_number
 pub content-written : {d e f g v : List ℕ} {a b c r k : ℕ} → Wrote d a (k ∷ []) e b → Wrote e b v f c → Wrote f c (126 ∷ []) g r → Wrote d a (contentBytes k v) g r

@@ -2,8 +2,8 @@
 ghost use Prim.Native.Nat.{_+_, _≤_};
 ghost use mathlib.Core.Path.{_≡_};
 ghost use lib.ListN.{length};
-ghost use Rattle.octets.specs.Wrote.{Writes};
-ghost use Rattle.fields.specs.Values.{number, string, date, octets, contentBytes, fieldBytes};
+ghost use Rattle.byte_strings.specs.Wrote.{Writes};
+ghost use Rattle.field_values.specs.Values.{number, string, date, octets, contentBytes, fieldBytes};
 
 // Writes a field of a type with its content, and answers the place after it.
 fn put_content(dst: &mut [u8], at: usize, kind: u8, v: &[u8]) -> usize
@@ -11,9 +11,9 @@ fn put_content(dst: &mut [u8], at: usize, kind: u8, v: &[u8]) -> usize
     ensures { λ r. ⌜ Writes dst at (contentBytes kind (now (v .entry))) r ⌝ }
     ensures short { λ r. ⌜ r ≡ at + length (now (v .entry)) + 2 ⌝ }
 {
-    let a = octets::put_byte(dst, at, kind);
-    let b = octets::put(dst, a, v);
-    octets::put_byte(dst, b, b'~')
+    let a = byte_strings::put_byte(dst, at, kind);
+    let b = byte_strings::put(dst, a, v);
+    byte_strings::put_byte(dst, b, b'~')
 }
 
 // Writes a number, and answers the place after it.
@@ -22,9 +22,9 @@ pub fn put_number(dst: &mut [u8], at: usize, value: u32) -> usize
     ensures { λ r. ⌜ Writes dst at (fieldBytes (number value)) r ⌝ }
     ensures short { λ r. ⌜ r ≤ at + 12 ⌝ }
 {
-    let a = octets::put_byte(dst, at, b'N');
-    let b = decimal_writer::put_decimal(dst, a, value);
-    octets::put_byte(dst, b, b'~')
+    let a = byte_strings::put_byte(dst, at, b'N');
+    let b = text_decimal_writer::put_decimal(dst, a, value);
+    byte_strings::put_byte(dst, b, b'~')
 }
 
 // Writes a string, and answers the place after it.

@@ -4,7 +4,7 @@ use mathlib.Core.Logic.{_⊎_, inl, inr, _≢_}
 use mathlib.Core.List.{List, [], _∷_, _++_, append-assoc}
 use Prim.Native.Nat.{ℕ, zero, suc}
 use native.Mathlib.Omega.{arith}
-use Rattle.octets.proofs.Flags.{nope}
+use Rattle.byte_strings.proofs.Flags.{nope}
 use Rattle.history.proofs.Latch.{since-last, since-none}
 use Rattle.history.proofs.Laws.{Clears}
 use Rattle.history.proofs.Theorem.{live-since}

@@ -6,8 +6,8 @@ use Prim.Native.Nat.{ℕ, zero, suc, _<_}
 use native.Mathlib.Omega.{arith}
 use lib.ListN.{getD, length}
 use lib.Seq.{getD-set-same}
-use Rattle.octets.proofs.Flags.{nope}
-use Rattle.octets.proofs.StringLaws.{same-self}
+use Rattle.byte_strings.proofs.Flags.{nope}
+use Rattle.byte_strings.proofs.StringLaws.{same-self}
 use Rattle.history.proofs.Rows.{clash, Stored, new, old, stored}
 use Rattle.history.specs.Step.{SessionPlace, own, StorePlace, held, spare, Step, refuses, reads, starts, responds, loads, finishes, deletes, clears, resets}
 use Rattle.history.proofs.Sound.{Sound, sound-step, used-within, key-within, spot-row, drop-key, drop-kept, drop-row, stop-row, stop-used}

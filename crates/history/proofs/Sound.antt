@@ -5,9 +5,9 @@ use mathlib.Core.Bool.{Bool, true, false}
 use mathlib.Core.List.{List, map}
 use Prim.Native.Nat.{ℕ, _<_}
 use lib.ListN.{getD, set, length, List·getD-map}
-use Rattle.octets.proofs.Flags.{nope}
-use Rattle.octets.specs.Strings.{sameBytes}
-use Rattle.octets.proofs.StringLaws.{same-equal, same-self}
+use Rattle.byte_strings.proofs.Flags.{nope}
+use Rattle.byte_strings.specs.Strings.{sameBytes}
+use Rattle.byte_strings.proofs.StringLaws.{same-equal, same-self}
 use Rattle.history.proofs.Rows.{clash, within, Stored, new, old, stored, getD-none}
 use Rattle.history.specs.Step.{SessionPlace, own, fresh, StorePlace, held, spare, Step, refuses, reads, starts, responds, loads, finishes, deletes, clears, resets}
 use Rattle.history.specs.Model.{State, idle, Slot, free, used, Register, vacant, key, Tables, Item, slotRow, putSlot, putRegister, dropKey, dropSlot, stopped, reset, empty}

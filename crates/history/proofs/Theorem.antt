@@ -4,7 +4,7 @@ use mathlib.Core.Logic.{_⊎_, inl, inr}
 use mathlib.Core.List.{List, [], _∷_}
 use Prim.Native.Nat.{ℕ, zero, suc}
 use Rattle.history.proofs.Latch.{inv-finally, latch-to, latch-from, Moment, moment}
-use Rattle.octets.proofs.Flags.{nope}
+use Rattle.byte_strings.proofs.Flags.{nope}
 use Rattle.history.proofs.Rows.{getD-none}
 use Rattle.history.specs.Step.{Step}
 use Rattle.history.proofs.Sound.{Sound, sound-step, sound-empty}

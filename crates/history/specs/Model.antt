@@ -3,7 +3,7 @@ use Prim.Native.Nat.{ℕ, zero, suc}
 use mathlib.Core.Bool.{cond}
 use mathlib.Core.List.{List, map}
 use lib.ListN.{getD, set, replicate}
-use Rattle.octets.specs.Strings.{sameBytes}
+use Rattle.byte_strings.specs.Strings.{sameBytes}
 
 pub data State : Type 0 where
   pending loading idle : State

@@ -4,11 +4,11 @@ use mathlib.Core.List.{List, [], _∷_, append-assoc}
 use Prim.Native.Nat.{ℕ, _+_, _-_, _≤_}
 use native.Mathlib.Omega.{arith}
 use lib.ListN.{length, take, drop}
-use Rattle.octets.specs.Wrote.{Wrote}
-use Rattle.pieces.specs.Pieces.{joined}
-use Rattle.octets.proofs.Writes.{then, written-part}
-use Rattle.checksum.specs.Checksum.{sumDigits}
-use Rattle.checksum.specs.declared.Kind.the-variants.{Modbus}
+use Rattle.byte_strings.specs.Wrote.{Wrote}
+use Rattle.byte_pieces.specs.Pieces.{joined}
+use Rattle.byte_strings.proofs.Writes.{then, written-part}
+use Rattle.check_sums.specs.Checksum.{sumDigits}
+use Rattle.check_sums.specs.declared.Kind.the-variants.{Modbus}
 use Rattle.record_writer.specs.Build.{recordBytes}
 
 -- put_field

@@ -9,22 +9,22 @@ use lib.Dec.{leb, eqb}
 use lib.ListN.{length, getD, take, drop, length-append, take-append-drop}
 use lib.Seq.{take-at, take-take}
 use borrow.Author.Tests.{eq-eqb, le-leb, leb-true}
-use Rattle.octets.specs.Strings.{allOf, isNot, sameBytes}
-use Rattle.pieces.specs.Pieces.{pieces, isEnded, joined}
-use Rattle.octets.proofs.Flags.{and-first, and-second, and-both}
-use Rattle.octets.proofs.StringLaws.{all-append, all-front, same-self, same-equal}
-use Rattle.pieces.proofs.PieceLaws.{pieces-cons}
-use Rattle.hexadecimal.specs.Hex.{hexDigit}
-use Rattle.checksum.specs.Checksum.{sumDigits, endsInSum}
-use Rattle.checksum.specs.declared.Kind.the-variants.{Modbus}
-use Rattle.checksum.proofs.RoundTrip.{digits-pass, sum-ends, sum-only}
-use Rattle.text.specs.Classes.{isOf, areAll}
-use Rattle.text.specs.declared.Class.the-variants.{Hexadecimal, Printable}
-use Rattle.text.proofs.ClassLaws.{class-plain}
-use Rattle.text.proofs.Printable.{printable-bytes}
-use Rattle.records.specs.Records.{bodyOf, field, isRecord}
+use Rattle.byte_strings.specs.Strings.{allOf, isNot, sameBytes}
+use Rattle.byte_pieces.specs.Pieces.{pieces, isEnded, joined}
+use Rattle.byte_strings.proofs.Flags.{and-first, and-second, and-both}
+use Rattle.byte_strings.proofs.StringLaws.{all-append, all-front, same-self, same-equal}
+use Rattle.byte_pieces.proofs.PieceLaws.{pieces-cons}
+use Rattle.check_digits.specs.Hex.{hexDigit}
+use Rattle.check_sums.specs.Checksum.{sumDigits, endsInSum}
+use Rattle.check_sums.specs.declared.Kind.the-variants.{Modbus}
+use Rattle.check_sums.proofs.RoundTrip.{digits-pass, sum-ends, sum-only}
+use Rattle.text_classes.specs.Classes.{isOf, areAll}
+use Rattle.text_classes.specs.declared.Class.the-variants.{Hexadecimal, Printable}
+use Rattle.text_classes.proofs.ClassLaws.{class-plain}
+use Rattle.text_classes.proofs.Printable.{printable-bytes}
+use Rattle.record_parser.specs.Records.{bodyOf, field, isRecord}
 use Rattle.record_writer.specs.Build.{recordBytes}
-use Rattle.pieces.proofs.Joined.{pieces-behind, joined-ended, pieces-joined}
+use Rattle.byte_pieces.proofs.Joined.{pieces-behind, joined-ended, pieces-joined}
 
 -- what the type and each field must be: printable, without the delimiter (003 clause 5.8)
 abbrev pub isField : ℕ → List ℕ → Bool

@@ -1,14 +1,14 @@
 // Records of delimited fields written into a lent buffer: BUILD-RECORD (003 clauses 5.7.1 and 5.8.1; document 01,
 // "Records").
-use checksum::Kind;
+use check_sums::Kind;
 ghost use mathlib.Core.Path.{_≡_};
 ghost use mathlib.Core.List.{[], _∷_};
 ghost use Prim.Native.Nat.{_+_, _-_, _≤_};
 ghost use lib.ListN.{length, take, drop};
-ghost use Rattle.octets.specs.Wrote.{Writes};
-ghost use Rattle.pieces.specs.Pieces.{joined};
-ghost use Rattle.checksum.specs.Checksum.{sumDigits};
-ghost use Rattle.checksum.specs.declared.Kind.the-variants.{Modbus};
+ghost use Rattle.byte_strings.specs.Wrote.{Writes};
+ghost use Rattle.byte_pieces.specs.Pieces.{joined};
+ghost use Rattle.check_sums.specs.Checksum.{sumDigits};
+ghost use Rattle.check_sums.specs.declared.Kind.the-variants.{Modbus};
 ghost use Rattle.record_writer.specs.Build.{recordBytes};
 
 // Writes one field and its delimiter, and answers the place after it.
@@ -17,8 +17,8 @@ pub fn put_field(dst: &mut [u8], at: usize, field: &[u8], delimiter: u8) -> usiz
     ensures { λ r. ⌜ Writes dst at (joined delimiter (now (field .entry) ∷ [])) r ⌝ }
     ensures short { λ r. ⌜ r ≡ at + length (now (field .entry)) + 1 ⌝ }
 {
-    let o = octets::put(dst, at, field);
-    octets::put_byte(dst, o, delimiter)
+    let o = byte_strings::put(dst, at, field);
+    byte_strings::put_byte(dst, o, delimiter)
 }
 
 // Writes the four digits of the bytes from a place up to `to` behind them, and answers the place after the digits.
@@ -27,7 +27,7 @@ pub fn close_record(dst: &mut [u8], from: usize, to: usize) -> usize
     ensures { λ r. ⌜ Writes dst to (sumDigits Modbus (take (to - from) (drop from (now (dst .entry))))) r ⌝ }
     ensures short { λ r. ⌜ r ≡ to + 4 ⌝ }
 {
-    checksum::put_sum(Kind::Modbus, dst, from, to)
+    check_sums::put_sum(Kind::Modbus, dst, from, to)
 }
 
 // Writes four fields, each with its delimiter, and answers the place after them.

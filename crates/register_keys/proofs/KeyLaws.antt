@@ -6,17 +6,17 @@ use Prim.Native.Nat.{ℕ, _+_, _-_, _*_, _≤_}
 use lib.Dec.{eqb}
 use lib.ListN.{length, take, drop}
 use borrow.Author.Tests.{eq-eqb, ne-eqb, not-true, not-false}
-use Rattle.text.specs.Classes.{areAll}
-use Rattle.text.specs.declared.Class.the-variants.{Zero}
-use Rattle.decimals.specs.Decimals.{decimal}
-use Rattle.attributes.specs.Table.{SGC, KRN, KSL, table}
-use Rattle.cards.specs.Entries.{valueOf, orElse}
-use Rattle.stored_cards.specs.Stored.{isStored}
+use Rattle.text_classes.specs.Classes.{areAll}
+use Rattle.text_classes.specs.declared.Class.the-variants.{Zero}
+use Rattle.text_decimals.specs.Decimals.{decimal}
+use Rattle.card_attributes.specs.Table.{SGC, KRN, KSL, table}
+use Rattle.card_entries.specs.Entries.{valueOf, orElse}
+use Rattle.card_stored.specs.Stored.{isStored}
 use Rattle.card_places.specs.Places.{afterAll}
 use Rattle.card_places.proofs.Values.{owner-start, owner-some, owner-end, owner-value, group-end, group-value, revision-end, revision-value}
-use Rattle.rows.specs.Lists.{someRow}
-use Rattle.rows.specs.Registers.{isVacant, attributeOf, isRegisterSound}
-use Rattle.rows.specs.Index.{isCalled, isOwnedBy, keyNumber, isSameNumber}
+use Rattle.row_types.specs.Lists.{someRow}
+use Rattle.row_types.specs.Registers.{isVacant, attributeOf, isRegisterSound}
+use Rattle.row_types.specs.Index.{isCalled, isOwnedBy, keyNumber, isSameNumber}
 use Rattle.row_index.specs.Found.{numberOf, ownerNumber}
 use Rattle.row_index.specs.Lent.{rowWith}
 use Rattle.row_index.proofs.NumberOf.{some-number}

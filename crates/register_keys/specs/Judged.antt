@@ -3,15 +3,15 @@ use Prim.Native.Nat.{ℕ, _+_, _*_}
 use mathlib.Core.Bool.{Bool}
 use mathlib.Core.List.{List, [], _∷_}
 use lib.ListN.{take}
-use Rattle.octets.specs.Texts.{all}
-use Rattle.decimals.specs.Decimals.{decimal}
-use Rattle.attributes.specs.Table.{SGC, KRN, KSL}
-use Rattle.cards.specs.Entries.{valueOf, orElse}
-use Rattle.stored_cards.specs.Stored.{isStored}
-use Rattle.rows.specs.Lists.{someRow}
-use Rattle.rows.specs.Registers.{isRegisterSound}
-use Rattle.rows.specs.Index.{isCalled, isOwnedBy}
-use Rattle.rows.specs.declared.RegisterRow.{RegisterRow}
+use Rattle.byte_strings.specs.Texts.{all}
+use Rattle.text_decimals.specs.Decimals.{decimal}
+use Rattle.card_attributes.specs.Table.{SGC, KRN, KSL}
+use Rattle.card_entries.specs.Entries.{valueOf, orElse}
+use Rattle.card_stored.specs.Stored.{isStored}
+use Rattle.row_types.specs.Lists.{someRow}
+use Rattle.row_types.specs.Registers.{isRegisterSound}
+use Rattle.row_types.specs.Index.{isCalled, isOwnedBy}
+use Rattle.row_types.specs.declared.RegisterRow.{RegisterRow}
 use Rattle.row_index.specs.Found.{numberOf}
 
 -- a card as stored whose KSL is one of the names

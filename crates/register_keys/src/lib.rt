@@ -6,9 +6,9 @@ ghost use mathlib.Core.Bool.{true, false};
 ghost use mathlib.Core.List.{map};
 ghost use Prim.Native.Nat.{_+_, _-_, _*_, _≤_};
 ghost use lib.ListN.{length, take, drop};
-ghost use Rattle.decimals.specs.Decimals.{decimal};
-ghost use Rattle.rows.specs.Lists.{everyRow, distinctRows};
-ghost use Rattle.rows.specs.Index.{isCalled, keyNumber, isSameNumber};
+ghost use Rattle.text_decimals.specs.Decimals.{decimal};
+ghost use Rattle.row_types.specs.Lists.{everyRow, distinctRows};
+ghost use Rattle.row_types.specs.Index.{isCalled, keyNumber, isSameNumber};
 ghost use Rattle.row_index.specs.Found.{numberOf, ownerNumber};
 ghost use Rattle.row_index.specs.Lent.{rowWith, rowsWith};
 ghost use Rattle.register_keys.specs.Judged.{isCardOwned, cardNumber, cardOwner, isSoundUnder};
@@ -38,8 +38,8 @@ fn key_at(card: &[u8], sgc: usize, krn: usize) -> u64
     ensures { λ k. ⌜ k ≡ decimal (take (sgc + 13 - (sgc + 3)) (drop (sgc + 3) (now (card .entry)))) * 10
         + decimal (take (krn + 4 - (krn + 3)) (drop (krn + 3) (now (card .entry)))) ⌝ }
 {
-    let group = decimals::decimal(&card[sgc + 3..sgc + 13]);
-    let revision = decimals::decimal(&card[krn + 3..krn + 4]);
+    let group = text_decimals::decimal(&card[sgc + 3..sgc + 13]);
+    let revision = text_decimals::decimal(&card[krn + 3..krn + 4]);
     group * 10 + revision
 }
 

@@ -5,10 +5,10 @@ use mathlib.Core.List.{List, [], _∷_}
 use Prim.Native.Nat.{ℕ}
 use lib.ListN.{getD}
 use borrow.Author.Tests.{ne-eqb}
-use Rattle.text.specs.Classes.{areAll}
-use Rattle.text.specs.declared.Class.the-variants.{Zero}
-use Rattle.rows.specs.Registers.{isVacant}
-use Rattle.rows.specs.declared.RegisterRow.{RegisterRow}
+use Rattle.text_classes.specs.Classes.{areAll}
+use Rattle.text_classes.specs.declared.Class.the-variants.{Zero}
+use Rattle.row_types.specs.Registers.{isVacant}
+use Rattle.row_types.specs.declared.RegisterRow.{RegisterRow}
 
 -- is_clear
 pub first-other : (s : List ℕ) → (getD s 0 0 ≡ 0 → ⊥) → false ≡ areAll Zero s

@@ -1,9 +1,9 @@
 // One register row (document 01, "Slots and registers"): whether it is free, and a free row.
-use rows::RegisterRow;
+use row_types::RegisterRow;
 ghost use mathlib.Core.Path.{_≡_};
-ghost use Rattle.text.specs.Classes.{areAll};
-ghost use Rattle.text.specs.declared.Class.the-variants.{Zero};
-ghost use Rattle.rows.specs.Registers.{isVacant, freeRegister};
+ghost use Rattle.text_classes.specs.Classes.{areAll};
+ghost use Rattle.text_classes.specs.declared.Class.the-variants.{Zero};
+ghost use Rattle.row_types.specs.Registers.{isVacant, freeRegister};
 
 // Whether every byte of a card's space is zero. A card starts with a letter, so the first byte mostly tells.
 pub fn is_clear(card: &[u8; 256]) -> bool
@@ -12,7 +12,7 @@ pub fn is_clear(card: &[u8; 256]) -> bool
     if card[0] != 0 {
         return false;
     }
-    text::are_zeros(card)
+    text_classes::are_zeros(card)
 }
 
 // Whether the row is free.

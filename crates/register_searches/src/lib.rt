@@ -1,11 +1,11 @@
 // The search of the registers (document 01, "Slots and registers"): where a key stands, and the lowest free
 // register, by the numbers that question 3 found.
-use rows::Place;
+use row_types::Place;
 ghost use mathlib.Core.Path.{_≡_};
 ghost use Prim.Native.Nat.{_≤_};
 ghost use lib.ListN.{take};
-ghost use Rattle.rows.specs.Lists.{firstFrom};
-ghost use Rattle.rows.specs.Places.{placeOf, PlaceWithin};
+ghost use Rattle.row_types.specs.Lists.{firstFrom};
+ghost use Rattle.row_types.specs.Places.{placeOf, PlaceWithin};
 ghost use Rattle.row_index.specs.Found.{isThe};
 
 fn is_the(key: u64, other: u64) -> bool

@@ -4,8 +4,8 @@ use mathlib.Core.List.{List, map}
 use Prim.Native.Nat.{ℕ, _+_, _<_}
 use lib.ListN.{length, getD, drop, set}
 use lib.Seq.{sets}
-use Rattle.rows.specs.declared.RegisterRow.{RegisterRow}
-use Rattle.rows.proofs.LoopLaws.{fill-turn}
+use Rattle.row_types.specs.declared.RegisterRow.{RegisterRow}
+use Rattle.row_types.proofs.LoopLaws.{fill-turn}
 use Rattle.row_index.specs.Lent.{cardIn, rowWith}
 
 pub card-turn : (d : RegisterRow) (l : List RegisterRow) (k : List (List ℕ)) (i m : ℕ) (x : List (List ℕ)) → sets k i (map cardIn (drop i l)) ≡ x → length l ≡ m → i < m

@@ -9,10 +9,10 @@ use lib.Dec.{eqb}
 use lib.ListN.{length, getD, set, take, drop, replicate, take-append-drop, length-set}
 use lib.Seq.{take-suc-set, drop-set-lt, drop-cons}
 use borrow.Author.Tests.{eq-eqb, ne-eqb}
-use Rattle.rows.specs.Lists.{mapped}
-use Rattle.rows.specs.Registers.{freeRegister, withoutSlot, isUnder}
-use Rattle.rows.specs.declared.RegisterRow.{RegisterRow}
-use Rattle.rows.proofs.LoopLaws.{rows-cons, rows-end, list-cons}
+use Rattle.row_types.specs.Lists.{mapped}
+use Rattle.row_types.specs.Registers.{freeRegister, withoutSlot, isUnder}
+use Rattle.row_types.specs.declared.RegisterRow.{RegisterRow}
+use Rattle.row_types.proofs.LoopLaws.{rows-cons, rows-end, list-cons}
 use Rattle.row_index.specs.Found.{isThe, AreOwnedBy}
 use Rattle.row_index.specs.Lent.{rowWith, rowsWith}
 use Rattle.register_tables.specs.Freed.{freed}

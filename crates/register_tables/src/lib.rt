@@ -1,6 +1,6 @@
 // The registers of the table, by their cards (document 01, "Slots and registers"): the cards of rows, the rows with
 // cards, and what SM?KX leaves.
-use rows::RegisterRow;
+use row_types::RegisterRow;
 ghost use mathlib.Core.Path.{_≡_};
 ghost use mathlib.Core.Bool.{cond};
 ghost use mathlib.Core.List.{[], map};

@@ -8,22 +8,22 @@ use lib.Dec.{eqb, leb}
 use lib.ListN.{length}
 use lib.Seq.{take-all}
 use borrow.Author.Tests.{leb-true, eqb-true, eq-eqb, ne-eqb}
-use Rattle.octets.specs.Strings.{sameBytes}
-use Rattle.octets.proofs.Flags.{nope, and-first, and-second}
-use Rattle.octets.proofs.StringLaws.{same-self, same-equal}
-use Rattle.text.specs.Classes.{within, areAll}
-use Rattle.text.specs.declared.Class.the-variants.{Digit}
-use Rattle.decimals.specs.Decimals.{decFrom, decimal, isUnpadded, isNumber}
-use Rattle.decimals.proofs.NumberLaws.{number-short, number-digits, number-most}
-use Rattle.forms.specs.Forms.{inForm}
-use Rattle.forms.specs.declared.Form.the-variants.{Number, Digits}
-use Rattle.attributes.specs.Table.{SGC, KRN, table}
-use Rattle.attributes.specs.declared.Presence.the-variants.{Required}
-use Rattle.stored_cards.specs.Stored.{isStored}
-use Rattle.rows.specs.Lists.{everyRow, distinctRows}
-use Rattle.rows.specs.Registers.{isVacant, attributeOf, isKeyOf, isRegisterSound, isSameKey}
-use Rattle.rows.specs.Index.{keyNumber, isSameNumber}
-use Rattle.rows.specs.declared.RegisterRow.{RegisterRow}
+use Rattle.byte_strings.specs.Strings.{sameBytes}
+use Rattle.byte_strings.proofs.Flags.{nope, and-first, and-second}
+use Rattle.byte_strings.proofs.StringLaws.{same-self, same-equal}
+use Rattle.text_classes.specs.Classes.{within, areAll}
+use Rattle.text_classes.specs.declared.Class.the-variants.{Digit}
+use Rattle.text_decimals.specs.Decimals.{decFrom, decimal, isUnpadded, isNumber}
+use Rattle.text_decimals.proofs.NumberLaws.{number-short, number-digits, number-most}
+use Rattle.text_forms.specs.Forms.{inForm}
+use Rattle.text_forms.specs.declared.Form.the-variants.{Number, Digits}
+use Rattle.card_attributes.specs.Table.{SGC, KRN, table}
+use Rattle.card_attributes.specs.declared.Presence.the-variants.{Required}
+use Rattle.card_stored.specs.Stored.{isStored}
+use Rattle.row_types.specs.Lists.{everyRow, distinctRows}
+use Rattle.row_types.specs.Registers.{isVacant, attributeOf, isKeyOf, isRegisterSound, isSameKey}
+use Rattle.row_types.specs.Index.{keyNumber, isSameNumber}
+use Rattle.row_types.specs.declared.RegisterRow.{RegisterRow}
 use Rattle.row_index.proofs.Readings.{distinct-read}
 use Rattle.row_index.proofs.StoredValues.{stored-in-form}
 

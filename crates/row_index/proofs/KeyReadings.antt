@@ -6,14 +6,14 @@ use Prim.Native.Nat.{ℕ, _+_, _*_, _<_}
 use native.Mathlib.Omega.{arith}
 use lib.ListN.{length, getD, length-map}
 use borrow.Author.Tests.{eq-eqb, eqb-true, ne-eqb}
-use Rattle.octets.specs.Strings.{sameBytes}
-use Rattle.octets.proofs.Flags.{nope}
-use Rattle.decimals.specs.Decimals.{decimal}
-use Rattle.attributes.specs.Table.{SGC, KRN}
-use Rattle.rows.specs.Lists.{firstFrom}
-use Rattle.rows.specs.Registers.{isVacant, attributeOf, isKeyOf, isRegisterSound}
-use Rattle.rows.specs.Index.{keyNumber}
-use Rattle.rows.specs.declared.RegisterRow.{RegisterRow}
+use Rattle.byte_strings.specs.Strings.{sameBytes}
+use Rattle.byte_strings.proofs.Flags.{nope}
+use Rattle.text_decimals.specs.Decimals.{decimal}
+use Rattle.card_attributes.specs.Table.{SGC, KRN}
+use Rattle.row_types.specs.Lists.{firstFrom}
+use Rattle.row_types.specs.Registers.{isVacant, attributeOf, isKeyOf, isRegisterSound}
+use Rattle.row_types.specs.Index.{keyNumber}
+use Rattle.row_types.specs.declared.RegisterRow.{RegisterRow}
 use Rattle.row_index.specs.Found.{isThe, AreKeys}
 use Rattle.row_index.proofs.Readings.{first-read, at-read}
 use Rattle.row_index.proofs.KeyLaws.{Keyed, filled-keyed, free-number, filled-number, filled-some, same-bytes-number}

@@ -8,9 +8,9 @@ use native.Mathlib.Omega.{arith}
 use lib.ListN.{length, getD, take, drop, set}
 use lib.Seq.{take-suc, take-suc-set, take-all}
 use borrow.Author.Tests.{not-true, not-false}
-use Rattle.octets.proofs.Flags.{nope}
-use Rattle.rows.specs.Lists.{everyRow}
-use Rattle.rows.proofs.LoopLaws.{list-cons, list-end}
+use Rattle.byte_strings.proofs.Flags.{nope}
+use Rattle.row_types.specs.Lists.{everyRow}
+use Rattle.row_types.proofs.LoopLaws.{list-cons, list-end}
 
 -- every row passes: x is what comes of it all
 module _ {A : Type 0} (f : A → Bool) (d : A) (l : List A) (i : ℕ) (x : Bool) (inv : everyRow f (drop i l) ≡ x) where

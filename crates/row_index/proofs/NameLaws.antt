@@ -7,21 +7,21 @@ use native.Mathlib.Omega.{arith}
 use lib.Dec.{eqb, leb}
 use lib.ListN.{length}
 use borrow.Author.Tests.{leb-true, eqb-true, ne-eqb}
-use Rattle.octets.specs.Strings.{sameBytes}
-use Rattle.octets.proofs.Flags.{and-first, and-second}
-use Rattle.text.specs.Classes.{areAll}
-use Rattle.text.specs.declared.Class.the-variants.{Zero}
-use Rattle.text.proofs.Identify.{name-some}
-use Rattle.attributes.specs.Table.{KSL}
-use Rattle.rows.specs.Lists.{everyRow, distinctRows, trimmed}
-use Rattle.rows.specs.Slots.{isZeroSlot, hasState, kmcidOf, isNamed, isFilledSlot, isSlotSound, isSameSlot}
-use Rattle.rows.specs.Registers.{attributeOf}
-use Rattle.rows.specs.Sound.{isOwned}
-use Rattle.rows.specs.Index.{keptName, isCalled, isSameName, isOwnedBy}
-use Rattle.rows.specs.declared.SlotRow.{SlotRow}
-use Rattle.rows.specs.declared.RegisterRow.{RegisterRow}
-use Rattle.rows.specs.declared.SlotState.the-variants.{Free}
-use Rattle.rows.proofs.RowReplyLaws.{sound-kmcid}
+use Rattle.byte_strings.specs.Strings.{sameBytes}
+use Rattle.byte_strings.proofs.Flags.{and-first, and-second}
+use Rattle.text_classes.specs.Classes.{areAll}
+use Rattle.text_classes.specs.declared.Class.the-variants.{Zero}
+use Rattle.text_classes.proofs.Identify.{name-some}
+use Rattle.card_attributes.specs.Table.{KSL}
+use Rattle.row_types.specs.Lists.{everyRow, distinctRows, trimmed}
+use Rattle.row_types.specs.Slots.{isZeroSlot, hasState, kmcidOf, isNamed, isFilledSlot, isSlotSound, isSameSlot}
+use Rattle.row_types.specs.Registers.{attributeOf}
+use Rattle.row_types.specs.Sound.{isOwned}
+use Rattle.row_types.specs.Index.{keptName, isCalled, isSameName, isOwnedBy}
+use Rattle.row_types.specs.declared.SlotRow.{SlotRow}
+use Rattle.row_types.specs.declared.RegisterRow.{RegisterRow}
+use Rattle.row_types.specs.declared.SlotState.the-variants.{Free}
+use Rattle.row_types.proofs.RowReplyLaws.{sound-kmcid}
 use Rattle.row_index.proofs.Readings.{some-read, distinct-read, every-alike}
 
 zeros-trimmed : (k : List ℕ) → areAll Zero k ≡ true → trimmed k ≡ []

@@ -3,7 +3,7 @@ use mathlib.Core.Path.{_≡_, refl, sym, ap, _∙_}
 use mathlib.Core.Bool.{Bool}
 use mathlib.Core.List.{List, [], _∷_, map}
 use Prim.Native.Nat.{ℕ, _+_}
-use Rattle.rows.specs.Lists.{numbersFrom}
+use Rattle.row_types.specs.Lists.{numbersFrom}
 
 abbrev numbersOf : ℕ → List Bool → List ℕ
 numbersOf i l = numbersFrom (λ (b : Bool). b) i l

@@ -8,8 +8,8 @@ use native.Mathlib.Omega.{arith}
 use lib.Dec.{eqb}
 use lib.ListN.{length, getD, drop}
 use borrow.Author.Tests.{ne-eqb}
-use Rattle.rows.specs.Lists.{someRow, firstFrom}
-use Rattle.rows.proofs.LoopLaws.{list-cons, list-end}
+use Rattle.row_types.specs.Lists.{someRow, firstFrom}
+use Rattle.row_types.proofs.LoopLaws.{list-cons, list-end}
 use Rattle.row_index.specs.Found.{orZero, numberOf}
 
 -- the search at i: x is what comes of it all

@@ -8,20 +8,20 @@ use native.Mathlib.Omega.{arith}
 use lib.Dec.{eqb}
 use lib.ListN.{getD}
 use borrow.Author.Tests.{eq-eqb, ne-eqb}
-use Rattle.octets.specs.Strings.{sameBytes}
-use Rattle.octets.proofs.Flags.{nope, and-second}
-use Rattle.octets.proofs.StringLaws.{same-self, same-equal}
-use Rattle.attributes.specs.Table.{KSL}
-use Rattle.text.specs.Classes.{areAll}
-use Rattle.rows.specs.Lists.{everyRow, someRow, firstFrom}
-use Rattle.rows.specs.Slots.{hasState, kmcidOf, isNamed, isSlotSound, freeSlot}
-use Rattle.rows.specs.Registers.{isVacant, attributeOf, isUnder, freeRegister}
-use Rattle.rows.specs.Sound.{isOwned}
-use Rattle.rows.specs.Index.{keptName, isCalled}
-use Rattle.rows.specs.declared.SlotRow.{SlotRow}
-use Rattle.rows.specs.declared.RegisterRow.{RegisterRow}
-use Rattle.rows.specs.declared.SlotState.the-variants.{Free}
-use Rattle.rows.proofs.ListLaws.{found}
+use Rattle.byte_strings.specs.Strings.{sameBytes}
+use Rattle.byte_strings.proofs.Flags.{nope, and-second}
+use Rattle.byte_strings.proofs.StringLaws.{same-self, same-equal}
+use Rattle.card_attributes.specs.Table.{KSL}
+use Rattle.text_classes.specs.Classes.{areAll}
+use Rattle.row_types.specs.Lists.{everyRow, someRow, firstFrom}
+use Rattle.row_types.specs.Slots.{hasState, kmcidOf, isNamed, isSlotSound, freeSlot}
+use Rattle.row_types.specs.Registers.{isVacant, attributeOf, isUnder, freeRegister}
+use Rattle.row_types.specs.Sound.{isOwned}
+use Rattle.row_types.specs.Index.{keptName, isCalled}
+use Rattle.row_types.specs.declared.SlotRow.{SlotRow}
+use Rattle.row_types.specs.declared.RegisterRow.{RegisterRow}
+use Rattle.row_types.specs.declared.SlotState.the-variants.{Free}
+use Rattle.row_types.proofs.ListLaws.{found}
 use Rattle.row_index.specs.Found.{numberOf, ownerNumber, isThe, AreOwnedBy}
 use Rattle.row_index.proofs.Readings.{some-read, first-read}
 use Rattle.row_index.proofs.NameLaws.{named-called}

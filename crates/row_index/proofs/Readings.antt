@@ -5,8 +5,8 @@ use mathlib.Core.List.{List, [], _∷_, map}
 use Prim.Native.Nat.{ℕ, zero, suc, _+_, _<_}
 use native.Mathlib.Omega.{arith}
 use lib.ListN.{length, getD}
-use Rattle.octets.proofs.Flags.{and-first, and-second}
-use Rattle.rows.specs.Lists.{everyRow, someRow, distinctRows, firstFrom}
+use Rattle.byte_strings.proofs.Flags.{and-first, and-second}
+use Rattle.row_types.specs.Lists.{everyRow, someRow, distinctRows, firstFrom}
 
 module _ {A B : Type 0} (sound : A → Bool) (read : A → B) where
   pub some-read : (f : A → Bool) (g : B → Bool) → ((x : A) → sound x ≡ true → f x ≡ g (read x)) → (l : List A) → everyRow sound l ≡ true → someRow f l ≡ someRow g (map read l)

@@ -7,17 +7,17 @@ use native.Mathlib.Omega.{arith}
 use lib.Dec.{T, eqb}
 use lib.ListN.{length, take, drop}
 use borrow.Author.Tests.{eq-eqb}
-use Rattle.octets.proofs.Flags.{and-left, and-right, no}
-use Rattle.pieces.specs.Pieces.{pieces}
-use Rattle.pieces.proofs.PieceLaws.{pieces-first}
-use Rattle.forms.specs.Forms.{inForm}
-use Rattle.cards.specs.Entries.{entryLength, valueIn, valueOf, orElse}
-use Rattle.cards.proofs.EntryLaws.{a-name}
-use Rattle.attributes.specs.Table.{table, name, form}
-use Rattle.attributes.specs.declared.Attribute.{Attribute}
-use Rattle.attributes.proofs.TableLaws.{allRows, at-row, name-some}
-use Rattle.stored_cards.specs.Stored.{isStored}
-use Rattle.stored_cards.proofs.Sequence.{isStoredFrom, stored-walk}
+use Rattle.byte_strings.proofs.Flags.{and-left, and-right, no}
+use Rattle.byte_pieces.specs.Pieces.{pieces}
+use Rattle.byte_pieces.proofs.PieceLaws.{pieces-first}
+use Rattle.text_forms.specs.Forms.{inForm}
+use Rattle.card_entries.specs.Entries.{entryLength, valueIn, valueOf, orElse}
+use Rattle.card_entries.proofs.EntryLaws.{a-name}
+use Rattle.card_attributes.specs.Table.{table, name, form}
+use Rattle.card_attributes.specs.declared.Attribute.{Attribute}
+use Rattle.card_attributes.proofs.TableLaws.{allRows, at-row, name-some}
+use Rattle.card_stored.specs.Stored.{isStored}
+use Rattle.card_stored.proofs.Sequence.{isStoredFrom, stored-walk}
 use Rattle.card_laws.proofs.RoundTrip.{isOther, isDistinct, all-distinct}
 use Rattle.card_laws.proofs.StoredText.{entry-ends, entry-name, entry-form, stored-behind}
 

@@ -1,4 +1,4 @@
--- What question 3 finds of the registers: the key of each as a number (keyNumber of `rows`), and the number of the
+-- What question 3 finds of the registers: the key of each as a number (keyNumber of `row_types`), and the number of the
 -- slot that owns it.
 use Prim.Native.Nat.{ℕ}
 use mathlib.Core.Path.{_≡_}
@@ -6,11 +6,11 @@ use mathlib.Core.Bool.{Bool, true, cond}
 use mathlib.Core.List.{List, map}
 use mathlib.Core.Option.{Option, none, some}
 use lib.Dec.{eqb}
-use Rattle.attributes.specs.Table.{KSL}
-use Rattle.rows.specs.Lists.{everyRow, firstFrom}
-use Rattle.rows.specs.Registers.{isVacant, attributeOf, isUnder, isRegisterSound}
-use Rattle.rows.specs.Index.{isCalled, keyNumber}
-use Rattle.rows.specs.declared.RegisterRow.{RegisterRow}
+use Rattle.card_attributes.specs.Table.{KSL}
+use Rattle.row_types.specs.Lists.{everyRow, firstFrom}
+use Rattle.row_types.specs.Registers.{isVacant, attributeOf, isUnder, isRegisterSound}
+use Rattle.row_types.specs.Index.{isCalled, keyNumber}
+use Rattle.row_types.specs.declared.RegisterRow.{RegisterRow}
 
 abbrev pub orZero : Option ℕ → ℕ
 orZero none = 0

@@ -1,9 +1,9 @@
 -- Cards that are lent, read as register rows; and the tables that such rows make with slot rows.
 use Prim.Native.Nat.{ℕ}
 use mathlib.Core.List.{List, map}
-use Rattle.rows.specs.declared.SlotRow.{SlotRow}
-use Rattle.rows.specs.declared.RegisterRow.{RegisterRow}
-use Rattle.rows.specs.declared.Tables.{Tables}
+use Rattle.row_types.specs.declared.SlotRow.{SlotRow}
+use Rattle.row_types.specs.declared.RegisterRow.{RegisterRow}
+use Rattle.row_types.specs.declared.Tables.{Tables}
 
 -- the row with a card
 abbrev pub rowWith : List ℕ → RegisterRow

@@ -6,18 +6,18 @@ use Prim.Native.Nat.{ℕ, _≤_, _<_}
 use lib.Dec.{eqb}
 use lib.ListN.{drop}
 use borrow.Author.Tests.{eq-eqb, ne-eqb, le-leb, lt-leb, not-true, not-false}
-use Rattle.octets.specs.Strings.{isNot, run}
-use Rattle.text.specs.Classes.{areAll}
-use Rattle.text.specs.Identifiers.{isIdentifier}
-use Rattle.text.specs.declared.Class.the-variants.{Zero}
-use Rattle.timestamp.specs.Timestamps.{isTimestamp}
-use Rattle.forms.specs.Forms.{inForm}
-use Rattle.forms.specs.declared.Form.the-variants.{Hex}
-use Rattle.identities.proofs.Chain.{no-here, yes-here}
-use Rattle.rows.specs.Lists.{trimmed}
-use Rattle.rows.specs.Slots.{isZeroSlot, hasState, isFilledSlot, isSlotSound}
-use Rattle.rows.specs.declared.SlotRow.{SlotRow}
-use Rattle.rows.specs.declared.SlotState.the-variants.{Pending}
+use Rattle.byte_strings.specs.Strings.{isNot, run}
+use Rattle.text_classes.specs.Classes.{areAll}
+use Rattle.text_classes.specs.Identifiers.{isIdentifier}
+use Rattle.text_classes.specs.declared.Class.the-variants.{Zero}
+use Rattle.text_timestamps.specs.Timestamps.{isTimestamp}
+use Rattle.text_forms.specs.Forms.{inForm}
+use Rattle.text_forms.specs.declared.Form.the-variants.{Hex}
+use Rattle.record_identities.proofs.Chain.{no-here, yes-here}
+use Rattle.row_types.specs.Lists.{trimmed}
+use Rattle.row_types.specs.Slots.{isZeroSlot, hasState, isFilledSlot, isSlotSound}
+use Rattle.row_types.specs.declared.SlotRow.{SlotRow}
+use Rattle.row_types.specs.declared.SlotState.the-variants.{Pending}
 
 -- is_zero_slot: the state first, then the chain
 pub other-number : (n m : ℕ) (b : Bool) → (n ≡ m → ⊥) → false ≡ (eqb n m && b)

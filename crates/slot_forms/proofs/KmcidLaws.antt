@@ -4,13 +4,13 @@ use mathlib.Core.Bool.{Bool, true, false, not, _&&_}
 use mathlib.Core.List.{List}
 use Prim.Native.Nat.{ℕ, _+_, _-_}
 use lib.ListN.{length, take, drop}
-use Rattle.octets.specs.Strings.{isNot, run}
-use Rattle.octets.proofs.StringLaws.{rest}
-use Rattle.text.specs.Classes.{areAll}
-use Rattle.text.specs.Identifiers.{isIdentifier}
-use Rattle.text.specs.declared.Class.the-variants.{Zero}
-use Rattle.identities.proofs.Chain.{no-here, yes-here}
-use Rattle.rows.specs.Lists.{trimmed}
+use Rattle.byte_strings.specs.Strings.{isNot, run}
+use Rattle.byte_strings.proofs.StringLaws.{rest}
+use Rattle.text_classes.specs.Classes.{areAll}
+use Rattle.text_classes.specs.Identifiers.{isIdentifier}
+use Rattle.text_classes.specs.declared.Class.the-variants.{Zero}
+use Rattle.record_identities.proofs.Chain.{no-here, yes-here}
+use Rattle.row_types.specs.Lists.{trimmed}
 use Rattle.slot_tests.proofs.TrimLaws.{first-zero, before-zero}
 
 -- is_kmcid: e is where the first zero stands

@@ -1,24 +1,24 @@
 // What question 3 asks of one slot row (document 01, "Slots and registers"): whether it is free with every byte
 // zero, or filled in form.
-use forms::Form;
-use rows::SlotRow;
-use rows::SlotState;
-use text::Class;
+use row_types::SlotRow;
+use row_types::SlotState;
+use text_classes::Class;
+use text_forms::Form;
 ghost use mathlib.Core.Path.{_≡_};
 ghost use mathlib.Core.Bool.{cond, _&&_};
 ghost use lib.ListN.{drop};
-ghost use Rattle.octets.specs.Strings.{isNot, run};
-ghost use Rattle.text.specs.Classes.{areAll};
-ghost use Rattle.text.specs.Identifiers.{isIdentifier};
-ghost use Rattle.text.specs.declared.Class.the-variants.{Zero};
-ghost use Rattle.timestamp.specs.Timestamps.{isTimestamp};
-ghost use Rattle.rows.specs.Lists.{trimmed};
-ghost use Rattle.rows.specs.Slots.{isZeroSlot, isFilledSlot, isSlotSound};
+ghost use Rattle.byte_strings.specs.Strings.{isNot, run};
+ghost use Rattle.text_classes.specs.Classes.{areAll};
+ghost use Rattle.text_classes.specs.Identifiers.{isIdentifier};
+ghost use Rattle.text_classes.specs.declared.Class.the-variants.{Zero};
+ghost use Rattle.text_timestamps.specs.Timestamps.{isTimestamp};
+ghost use Rattle.row_types.specs.Lists.{trimmed};
+ghost use Rattle.row_types.specs.Slots.{isZeroSlot, isFilledSlot, isSlotSound};
 
 fn is_zero(bytes: &[u8]) -> bool
     ensures { λ b. ⌜ b ≡ areAll Zero (now (bytes .entry)) ⌝ }
 {
-    text::are_all(Class::Zero, bytes)
+    text_classes::are_all(Class::Zero, bytes)
 }
 
 // Whether every byte of the row is zero.
@@ -42,8 +42,8 @@ fn is_kmcid(bytes: &[u8]) -> bool
     ensures { λ b. ⌜ b ≡ (isIdentifier (trimmed (now (bytes .entry)))
         && areAll Zero (drop (run (isNot 0) (now (bytes .entry))) (now (bytes .entry)))) ⌝ }
 {
-    let end = pieces::piece_end(bytes, 0, 0);
-    if !text::is_identifier(&bytes[0..end]) {
+    let end = byte_pieces::piece_end(bytes, 0, 0);
+    if !text_classes::is_identifier(&bytes[0..end]) {
         return false;
     }
     is_zero(&bytes[end..])
@@ -56,7 +56,7 @@ fn is_tvp(pending: bool, bytes: &[u8]) -> bool
     if !pending {
         return is_zero(bytes);
     }
-    forms::in_form(Form::Timestamp, bytes)
+    text_forms::in_form(Form::Timestamp, bytes)
 }
 
 // Whether the fields of a slot not free are in form.
@@ -66,7 +66,7 @@ fn is_filled_slot(row: SlotRow) -> bool
     if !is_kmcid(&row.kmcid) {
         return false;
     }
-    if !forms::in_form(Form::Hex(16), &row.fingerprint) {
+    if !text_forms::in_form(Form::Hex(16), &row.fingerprint) {
         return false;
     }
     is_tvp(slot_tests::has_state(row, SlotState::Pending), &row.tvp)

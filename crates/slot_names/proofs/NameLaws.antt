@@ -8,11 +8,11 @@ use lib.Dec.{eqb}
 use lib.ListN.{length, getD, take, drop}
 use lib.Seq.{length-take-le, getD-take}
 use borrow.Author.Tests.{eq-eqb, ne-eqb}
-use Rattle.octets.specs.Strings.{run, isNot, sameBytes}
-use Rattle.octets.proofs.StringLaws.{run-le, same-equal}
-use Rattle.rows.specs.Lists.{someRow, distinctRows, trimmed}
-use Rattle.rows.specs.Index.{isCalled, isSameName}
-use Rattle.rows.proofs.LoopLaws.{pairs-turn, pair-alike}
+use Rattle.byte_strings.specs.Strings.{run, isNot, sameBytes}
+use Rattle.byte_strings.proofs.StringLaws.{run-le, same-equal}
+use Rattle.row_types.specs.Lists.{someRow, distinctRows, trimmed}
+use Rattle.row_types.specs.Index.{isCalled, isSameName}
+use Rattle.row_types.proofs.LoopLaws.{pairs-turn, pair-alike}
 
 -- a kept name that is s is at least as long, and ends in its last byte
 module _ (name s : List ℕ) (e : sameBytes (trimmed name) s ≡ true) where

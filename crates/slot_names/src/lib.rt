@@ -1,8 +1,8 @@
 // The slots' names as they are kept, zeros after them (document 01, "Slots and registers"): the number of the one
 // that a name is, and whether no two are one.
 ghost use mathlib.Core.Path.{_≡_};
-ghost use Rattle.rows.specs.Lists.{distinctRows};
-ghost use Rattle.rows.specs.Index.{isCalled, isSameName};
+ghost use Rattle.row_types.specs.Lists.{distinctRows};
+ghost use Rattle.row_types.specs.Index.{isCalled, isSameName};
 ghost use Rattle.row_index.specs.Found.{numberOf};
 
 // Whether a kept name is the name. Names mostly differ in their last byte, so that is compared before the name's
@@ -20,7 +20,7 @@ pub fn is_called(kept: &[u8], name: &[u8]) -> bool
     if kept[last] != name[last] {
         return false;
     }
-    octets::same_bytes(slot_tests::trimmed(kept), name)
+    byte_strings::same_bytes(slot_tests::trimmed(kept), name)
 }
 
 // The number of the kept name that is the name, counted from 1; 0 where none is.

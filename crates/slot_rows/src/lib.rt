@@ -1,9 +1,9 @@
 // One slot row made, and moved to another state (document 01, "Slots and registers").
-use rows::SlotRow;
-use rows::SlotState;
+use row_types::SlotRow;
+use row_types::SlotState;
 ghost use mathlib.Core.Path.{_≡_};
-ghost use Rattle.rows.specs.Lists.{padded};
-ghost use Rattle.rows.specs.Slots.{freeSlot, filledSlot, movedSlot, resetSlot};
+ghost use Rattle.row_types.specs.Lists.{padded};
+ghost use Rattle.row_types.specs.Slots.{freeSlot, filledSlot, movedSlot, resetSlot};
 
 // A freed row.
 pub fn free_slot() -> SlotRow
@@ -25,7 +25,7 @@ fn in_forty(bytes: &[u8]) -> [u8; 40]
     ensures { λ t. ⌜ t ≡ padded 40 (now (bytes .entry)) ⌝ }
 {
     let mut space = [0u8; 40];
-    octets::put(&mut space, 0, octets::front(bytes, 40));
+    byte_strings::put(&mut space, 0, byte_strings::front(bytes, 40));
     space
 }
 
@@ -34,7 +34,7 @@ fn in_sixteen(bytes: &[u8]) -> [u8; 16]
     ensures { λ t. ⌜ t ≡ padded 16 (now (bytes .entry)) ⌝ }
 {
     let mut space = [0u8; 16];
-    octets::put(&mut space, 0, octets::front(bytes, 16));
+    byte_strings::put(&mut space, 0, byte_strings::front(bytes, 16));
     space
 }
 

@@ -1,16 +1,16 @@
 // The table of slots: searches, the test of each row, and the sweep of GL?RS (document 01, "Slots and registers").
-use rows::Place;
-use rows::SlotRow;
-use rows::SlotState;
+use row_types::Place;
+use row_types::SlotRow;
+use row_types::SlotState;
 ghost use mathlib.Core.Path.{_≡_};
 ghost use mathlib.Core.List.{map};
 ghost use Prim.Native.Nat.{_≤_};
 ghost use lib.ListN.{take};
-ghost use Rattle.rows.specs.Lists.{everyRow, firstFrom, mapped};
-ghost use Rattle.rows.specs.Slots.{hasState, isNamed, isSlotSound, resetSlot};
-ghost use Rattle.rows.specs.declared.SlotState.the-variants.{Free};
-ghost use Rattle.rows.specs.Places.{placeOf, PlaceWithin};
-ghost use Rattle.rows.specs.Index.{keptName};
+ghost use Rattle.row_types.specs.Lists.{everyRow, firstFrom, mapped};
+ghost use Rattle.row_types.specs.Slots.{hasState, isNamed, isSlotSound, resetSlot};
+ghost use Rattle.row_types.specs.declared.SlotState.the-variants.{Free};
+ghost use Rattle.row_types.specs.Places.{placeOf, PlaceWithin};
+ghost use Rattle.row_types.specs.Index.{keptName};
 
 // The place of the slot with a name.
 pub fn slot_place(slots: [SlotRow; 8], slot_count: usize, name: &[u8]) -> Place

@@ -4,12 +4,12 @@ use mathlib.Core.Bool.{Bool, true, false}
 use mathlib.Core.List.{List}
 use Prim.Native.Nat.{ℕ}
 use lib.Dec.{eqb}
-use Rattle.octets.specs.Strings.{sameBytes}
-use Rattle.rows.specs.Lists.{trimmed}
-use Rattle.rows.specs.Slots.{stateNumber, hasState, isNamed}
-use Rattle.rows.specs.declared.SlotRow.{SlotRow}
-use Rattle.rows.specs.declared.SlotState.{SlotState}
-use Rattle.rows.specs.declared.SlotState.the-variants.{Free}
+use Rattle.byte_strings.specs.Strings.{sameBytes}
+use Rattle.row_types.specs.Lists.{trimmed}
+use Rattle.row_types.specs.Slots.{stateNumber, hasState, isNamed}
+use Rattle.row_types.specs.declared.SlotRow.{SlotRow}
+use Rattle.row_types.specs.declared.SlotState.{SlotState}
+use Rattle.row_types.specs.declared.SlotState.the-variants.{Free}
 
 -- has_state
 pub by-number : (a : SlotState) (r : SlotRow) (n : ℕ) → n ≡ stateNumber a → eqb (r .state) n ≡ hasState a r

@@ -5,8 +5,8 @@ use Prim.Native.Nat.{ℕ, _+_, _-_}
 use native.Mathlib.Nat.{sub-zero}
 use native.Mathlib.Omega.{arith}
 use lib.ListN.{take}
-use Rattle.octets.specs.Strings.{isNot, run}
-use Rattle.rows.specs.Lists.{trimmed}
+use Rattle.byte_strings.specs.Strings.{isNot, run}
+use Rattle.row_types.specs.Lists.{trimmed}
 
 -- trimmed: e is where the first zero stands
 module _ (s : List ℕ) (e : ℕ) (p : e ≡ 0 + run (isNot 0) s) where

@@ -1,9 +1,9 @@
 // One slot row (document 01, "Slots and registers"): its state and its name.
-use rows::SlotRow;
-use rows::SlotState;
+use row_types::SlotRow;
+use row_types::SlotState;
 ghost use mathlib.Core.Path.{_≡_};
-ghost use Rattle.rows.specs.Lists.{trimmed};
-ghost use Rattle.rows.specs.Slots.{stateNumber, hasState, isNamed};
+ghost use Rattle.row_types.specs.Lists.{trimmed};
+ghost use Rattle.row_types.specs.Slots.{stateNumber, hasState, isNamed};
 
 // The number of a state in a row.
 pub fn state_number(state: SlotState) -> u8
@@ -28,7 +28,7 @@ pub fn has_state(row: SlotRow, state: SlotState) -> bool
 pub fn trimmed<'a>(bytes: &'a [u8]) -> &'a [u8]
     ensures { λ t. ⌜ now t ≡ trimmed (now (bytes .entry)) ⌝ }
 {
-    let first = pieces::piece_end(bytes, 0, 0);
+    let first = byte_pieces::piece_end(bytes, 0, 0);
     &bytes[0..first]
 }
 
@@ -39,5 +39,5 @@ pub fn is_named(row: SlotRow, name: &[u8]) -> bool
     if has_state(row, SlotState::Free) {
         return false;
     }
-    octets::same_bytes(trimmed(&row.kmcid), name)
+    byte_strings::same_bytes(trimmed(&row.kmcid), name)
 }

@@ -2,10 +2,10 @@
 use mathlib.Core.Path.{_≡_}
 use Prim.Native.Nat.{_+_, _-_, _≤_}
 use lib.ListN.{length, drop}
-use Rattle.octets.specs.Strings.{run}
-use Rattle.octets.proofs.StringLaws.{run-ended}
-use Rattle.text.specs.Classes.{isOf}
-use Rattle.text.specs.declared.Class.the-variants.{Digit}
+use Rattle.byte_strings.specs.Strings.{run}
+use Rattle.byte_strings.proofs.StringLaws.{run-ended}
+use Rattle.text_classes.specs.Classes.{isOf}
+use Rattle.text_classes.specs.declared.Class.the-variants.{Digit}
 use Rattle.card_places.proofs.Numbers.{digits-stopped, digits-turn}
 use borrow.Author.Needs.{needs}
 use Rattle.card_places.proofs.digit_count.Statement.{statement}

@@ -1,5 +1,5 @@
 -- `card_places::is_number` meets its contract, a law a return.
-use Rattle.decimals.proofs.NumberLaws.{none, many}
+use Rattle.text_decimals.proofs.NumberLaws.{none, many}
 use Rattle.card_places.proofs.Numbers.{zero-first, in-range}
 use borrow.Author.Needs.{needs}
 use Rattle.card_places.proofs.is_number.Statement.{statement}

@@ -3,9 +3,9 @@ use mathlib.Core.Path.{_≡_, refl}
 use Prim.Native.Nat.{_+_, _-_, _≤_}
 use lib.ListN.{length, drop}
 use lib.Seq.{sets}
-use Rattle.attributes.specs.Table.{table, rows}
-use Rattle.stored_cards.specs.Stored.{EngineValues, cardBytes, storedCard, storedValue, defaultCard}
-use Rattle.attributes.proofs.TableLaws.{name-three}
+use Rattle.card_attributes.specs.Table.{table, rows}
+use Rattle.card_stored.specs.Stored.{EngineValues, cardBytes, storedCard, storedValue, defaultCard}
+use Rattle.card_attributes.proofs.TableLaws.{name-three}
 use Rattle.card_writer.proofs.WriteLaws.{all-written, entry-turn, all-counted, entry-room, count-turn}
 use borrow.Author.Needs.{needs}
 use Rattle.card_writer.proofs.put_card.Statement.{statement}

@@ -1,5 +1,5 @@
 -- `console_forms::is_slot` meets its contract: a chain of three tests.
-use Rattle.identities.proofs.Chain.{chain}
+use Rattle.record_identities.proofs.Chain.{chain}
 use Rattle.console_forms.specs.LineForms.{isSlot}
 use Rattle.console_forms.proofs.CutLaws.{cuts}
 use borrow.Author.Needs.{needs}

@@ -1,5 +1,5 @@
 -- `console_prints::put_last` meets its contract: a word and a line feed.
-use Rattle.octets.proofs.Writes.{then}
+use Rattle.byte_strings.proofs.Writes.{then}
 use borrow.Author.Needs.{needs}
 use Rattle.console_prints.proofs.put_last.Statement.{statement}
 use Rattle.console_prints.proofs.put_last.Tie as tie

@@ -1,5 +1,5 @@
 -- `console_prints::put_number` meets its contract: the digits and a space.
-use Rattle.octets.proofs.Writes.{then}
+use Rattle.byte_strings.proofs.Writes.{then}
 use borrow.Author.Needs.{needs}
 use Rattle.console_prints.proofs.put_number.Statement.{statement}
 use Rattle.console_prints.proofs.put_number.Tie as tie

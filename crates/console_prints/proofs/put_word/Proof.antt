@@ -1,5 +1,5 @@
 -- `console_prints::put_word` meets its contract: a word and a space.
-use Rattle.octets.proofs.Writes.{then}
+use Rattle.byte_strings.proofs.Writes.{then}
 use borrow.Author.Needs.{needs}
 use Rattle.console_prints.proofs.put_word.Statement.{statement}
 use Rattle.console_prints.proofs.put_word.Tie as tie

@@ -1,5 +1,5 @@
 -- `console_row_lines::put_digits` meets its contract: the digits and a byte.
-use Rattle.octets.proofs.Writes.{then}
+use Rattle.byte_strings.proofs.Writes.{then}
 use borrow.Author.Needs.{needs}
 use Rattle.console_row_lines.proofs.put_digits.Statement.{statement}
 use Rattle.console_row_lines.proofs.put_digits.Tie as tie

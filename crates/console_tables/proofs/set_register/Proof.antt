@@ -1,6 +1,6 @@
 -- `console_tables::set_register` meets its contract, a law a return.
 use Rattle.console_tables.proofs.RowLaws.{register-set, no-register}
-use Rattle.rows.proofs.PlaceCounts.{thirty-two}
+use Rattle.row_types.proofs.PlaceCounts.{thirty-two}
 use borrow.Author.Needs.{needs}
 use Rattle.console_tables.proofs.set_register.Statement.{statement}
 use Rattle.console_tables.proofs.set_register.Tie as tie

@@ -1,6 +1,6 @@
 -- `console_tables::set_slot` meets its contract, a law a return.
 use Rattle.console_tables.proofs.RowLaws.{slot-set, no-slot}
-use Rattle.rows.proofs.PlaceCounts.{eight}
+use Rattle.row_types.proofs.PlaceCounts.{eight}
 use borrow.Author.Needs.{needs}
 use Rattle.console_tables.proofs.set_slot.Statement.{statement}
 use Rattle.console_tables.proofs.set_slot.Tie as tie

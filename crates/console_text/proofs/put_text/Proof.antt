@@ -4,9 +4,9 @@ use mathlib.Core.List.{map}
 use Prim.Native.Nat.{_+_, _-_, _≤_}
 use borrow.Author.Needs.{needs}
 use lib.ListN.{length, drop}
-use Rattle.rows.specs.Lists.{inTurn}
-use Rattle.rows.proofs.LoopLaws.{list-cons, list-end}
-use Rattle.rows.proofs.WriteLoops.{Remains, all-remains, turn-written, turns-ended}
+use Rattle.row_types.specs.Lists.{inTurn}
+use Rattle.row_types.proofs.LoopLaws.{list-cons, list-end}
+use Rattle.row_types.proofs.WriteLoops.{Remains, all-remains, turn-written, turns-ended}
 use Rattle.console_text.specs.Texts.{legible}
 use Rattle.console_text.proofs.TextLaws.{oneByte, text-told}
 use Rattle.console_text.proofs.put_text.Statement.{statement}

@@ -1,52 +1,52 @@
 -- `diminurel::diminurel_handle` meets its contract: a walk of its code, by hand. The two slices of rows are opened once. Their rows are lent to the functions that load and store them, and in between the tables are answered by value:
 -- what request and response own goes there, and is not needed afterwards. What is said of the tables is said of the lent rows (`LentLaws.antt`). Assumes nothing.
 -- In a step the number of `value`, `look`, `init`, `store` or `leave` is a place in the list of what there is (`Start`, `After`): a local takes two, the last local comes first, and what stands before the locals is listed where it changes.
-use Rattle.walks.proofs.Prelude.{_≡_, refl, sym, _∙_, ap, subst, ℕ, [], _∷_, List, length, URA, fullShare, Ty, named, erased, imm, mut, w8, tyInt, tyRef, tyUnit, Val, vptr, SProp, ent, emp, via, fst∗, id⊢, GName, Lft, Share, ftrue, flft, fobor, fobs, fauth, Memory, Routine, Heap, Env, WpFn, Tables, Atoms, Fun, fact, factI, givenOf, tables, tablesOf, Given, Item, Sq, runs, atRet, ‵, raw, ⋆, _⊛_, _$_, _∵_, !, qed, move, drop, split, join, use0, use1, group, fsplit, fjoin, feqL, suffices, frame, done, agg, whole, sub, look-in, look, store, init, stop, hop, fld, from, load, addr, of-opd, and-then, no-more, assigns, land, returns, enter, alloc1, alloc0, params1, pass1, pass0, free0, fmOf, WpFn-mono, owns, pureI, Is, pointee, u8, RefT, Held, row, opens-slice, closes-slice, sliceTy, sliceVal, slice-vals, MutSlice, ShrSlice, Room, finally, at-slice, heres, codedHoleys, mut-slice-tells, shr-slice-tells, owned, heard, nothing, Vals, onEntry, Meets, tripleOf, Contract, Triple, entered, cited, Stays, stay-slice, gave-slice, stay-dropped, walkOf, goes-slice, goes-gave-slice, goes-dropped, Walks, ends-at, walked, walk-meets, yes, Param, shrSliceOf, plain}
+use Rattle.hand_proofs.proofs.Prelude.{_≡_, refl, sym, _∙_, ap, subst, ℕ, [], _∷_, List, length, URA, fullShare, Ty, named, erased, imm, mut, w8, tyInt, tyRef, tyUnit, Val, vptr, SProp, ent, emp, via, fst∗, id⊢, GName, Lft, Share, ftrue, flft, fobor, fobs, fauth, Memory, Routine, Heap, Env, WpFn, Tables, Atoms, Fun, fact, factI, givenOf, tables, tablesOf, Given, Item, Sq, runs, atRet, ‵, raw, ⋆, _⊛_, _$_, _∵_, !, qed, move, drop, split, join, use0, use1, group, fsplit, fjoin, feqL, suffices, frame, done, agg, whole, sub, look-in, look, store, init, stop, hop, fld, from, load, addr, of-opd, and-then, no-more, assigns, land, returns, enter, alloc1, alloc0, params1, pass1, pass0, free0, fmOf, WpFn-mono, owns, pureI, Is, pointee, u8, RefT, Held, row, opens-slice, closes-slice, sliceTy, sliceVal, slice-vals, MutSlice, ShrSlice, Room, finally, at-slice, heres, codedHoleys, mut-slice-tells, shr-slice-tells, owned, heard, nothing, Vals, onEntry, Meets, tripleOf, Contract, Triple, entered, cited, Stays, stay-slice, gave-slice, stay-dropped, walkOf, goes-slice, goes-gave-slice, goes-dropped, Walks, ends-at, walked, walk-meets, yes, Param, shrSliceOf, plain}
 use denote.Struct.Laws as LL
 use mathlib.Core.List.{_++_}
 use Prim.Native.Nat.{_≤_}
 use denote.Triple.Clauses.{atExit}
-use Rattle.rows.specs.declared.SlotRow.{SlotRow}
-use Rattle.rows.specs.declared.RegisterRow.{RegisterRow}
-use Rattle.rows.specs.declared.Supplement.{Supplement}
-use Rattle.rows.proofs.SlotRow as slot
-use Rattle.rows.proofs.RegisterRow as register
-use Rattle.rows.proofs.Supplement as supplement
-use Rattle.rows.proofs.Supplement.Laws as supplement′
-use Rattle.lent_rows.specs.Tables.{overlay, slotTable, registerTable}
-use Rattle.lent_rows.specs.declared.SlotTable.{SlotTable}
-use Rattle.lent_rows.specs.declared.RegisterTable.{RegisterTable}
-use Rattle.lent_rows.proofs.SlotTable as slots
-use Rattle.lent_rows.proofs.SlotTable.Laws as slots′
-use Rattle.lent_rows.proofs.RegisterTable as registers
-use Rattle.lent_rows.proofs.RegisterTable.Laws as registers′
-use Rattle.walks.proofs.Walk.{unset, holds, value, calls-on, fact-and, says-all, leave}
-use Rattle.lent_rows.proofs.Lends.{calls-load, calls-store}
-use Rattle.lent_rows.proofs.load_slots as load-slots
-use Rattle.lent_rows.proofs.load_slots.Symbol as load-slots-def
-use Rattle.lent_rows.proofs.load_slots.Met as load-slots-thm
-use Rattle.lent_rows.proofs.load_registers as load-registers
-use Rattle.lent_rows.proofs.load_registers.Symbol as load-registers-def
-use Rattle.lent_rows.proofs.load_registers.Met as load-registers-thm
-use Rattle.lent_rows.proofs.store_slots as store-slots
-use Rattle.lent_rows.proofs.store_slots.Symbol as store-slots-def
-use Rattle.lent_rows.proofs.store_slots.Met as store-slots-thm
-use Rattle.lent_rows.proofs.store_registers as store-registers
-use Rattle.lent_rows.proofs.store_registers.Symbol as store-registers-def
-use Rattle.lent_rows.proofs.store_registers.Met as store-registers-thm
+use Rattle.row_types.specs.declared.SlotRow.{SlotRow}
+use Rattle.row_types.specs.declared.RegisterRow.{RegisterRow}
+use Rattle.row_types.specs.declared.Supplement.{Supplement}
+use Rattle.row_types.proofs.SlotRow as slot
+use Rattle.row_types.proofs.RegisterRow as register
+use Rattle.row_types.proofs.Supplement as supplement
+use Rattle.row_types.proofs.Supplement.Laws as supplement′
+use Rattle.row_lending.specs.Tables.{overlay, slotTable, registerTable}
+use Rattle.row_lending.specs.declared.SlotTable.{SlotTable}
+use Rattle.row_lending.specs.declared.RegisterTable.{RegisterTable}
+use Rattle.row_lending.proofs.SlotTable as slots
+use Rattle.row_lending.proofs.SlotTable.Laws as slots′
+use Rattle.row_lending.proofs.RegisterTable as registers
+use Rattle.row_lending.proofs.RegisterTable.Laws as registers′
+use Rattle.hand_proofs.proofs.Walk.{unset, holds, value, calls-on, fact-and, says-all, leave}
+use Rattle.row_lending.proofs.Lends.{calls-load, calls-store}
+use Rattle.row_lending.proofs.load_slots as load-slots
+use Rattle.row_lending.proofs.load_slots.Symbol as load-slots-def
+use Rattle.row_lending.proofs.load_slots.Met as load-slots-thm
+use Rattle.row_lending.proofs.load_registers as load-registers
+use Rattle.row_lending.proofs.load_registers.Symbol as load-registers-def
+use Rattle.row_lending.proofs.load_registers.Met as load-registers-thm
+use Rattle.row_lending.proofs.store_slots as store-slots
+use Rattle.row_lending.proofs.store_slots.Symbol as store-slots-def
+use Rattle.row_lending.proofs.store_slots.Met as store-slots-thm
+use Rattle.row_lending.proofs.store_registers as store-registers
+use Rattle.row_lending.proofs.store_registers.Symbol as store-registers-def
+use Rattle.row_lending.proofs.store_registers.Met as store-registers-thm
 use Rattle.engine.specs.Answers.{Answer, answerOf}
 use Rattle.engine.specs.Calls.{callIn, Responded, tablesAfter}
 use Rattle.engine.specs.Outcomes.{outcomeNumber}
-use Rattle.answer_numbers.specs.Numbers.{stateByte}
-use Rattle.answer_numbers.specs.Joined.{joined, slotsIn, registersIn}
-use Rattle.answer_numbers.specs.declared.Answered.{Answered}
-use Rattle.answer_numbers.proofs.Reply as reply
-use Rattle.answer_numbers.proofs.Reply.Laws as reply′
-use Rattle.answer_numbers.proofs.Answered as answered
-use Rattle.answer_numbers.proofs.Answered.Laws as answered′
-use Rattle.answer_numbers.proofs.answer as answer
-use Rattle.answer_numbers.proofs.answer.Symbol as answer-def
-use Rattle.answer_numbers.proofs.answer.Met as answer-thm
+use Rattle.entry_numbers.specs.Numbers.{stateByte}
+use Rattle.entry_numbers.specs.Joined.{joined, slotsIn, registersIn}
+use Rattle.entry_numbers.specs.declared.Answered.{Answered}
+use Rattle.entry_numbers.proofs.Reply as reply
+use Rattle.entry_numbers.proofs.Reply.Laws as reply′
+use Rattle.entry_numbers.proofs.Answered as answered
+use Rattle.entry_numbers.proofs.Answered.Laws as answered′
+use Rattle.entry_numbers.proofs.answer as answer
+use Rattle.entry_numbers.proofs.answer.Symbol as answer-def
+use Rattle.entry_numbers.proofs.answer.Met as answer-thm
 use Rattle.diminurel.proofs.LentLaws.{Same, same}
 use Rattle.diminurel.proofs.diminurel_handle as entry
 use Rattle.diminurel.proofs.diminurel_handle.Key.{name}
@@ -357,8 +357,8 @@ diminurel-handle-spec 𝓤 H 𝓜 𝓖 𝓡 =
     (tables 𝓤 H 𝓜 𝓡 code.env .C) (tables 𝓤 H 𝓜 𝓡 code.env .Λ) name code.function (code.unfolded 𝓤 H 𝓜 𝓡)
     (meets 𝓤 H (𝓖 .A) (𝓜 .mem) (𝓡 .run) (givenOf 𝓤 H 𝓜 𝓖) (tablesOf 𝓤 H 𝓜 (tables 𝓤 H 𝓜 𝓡 code.env))
     -- the functions that it calls meet their contracts
-    (cited 𝓤 H (LoadSlots 𝓤 H (𝓖 .A) (𝓜 .mem) (𝓡 .run)) 𝓜 𝓡 code.env load-slots-def.name load-slots-def.routine code.calls-lent-rows·load-slots (load-slots-thm.met 𝓤 H 𝓜 𝓖 𝓡))
-    (cited 𝓤 H (LoadRegisters 𝓤 H (𝓖 .A) (𝓜 .mem) (𝓡 .run)) 𝓜 𝓡 code.env load-registers-def.name load-registers-def.routine code.calls-lent-rows·load-registers (load-registers-thm.met 𝓤 H 𝓜 𝓖 𝓡))
-    (cited 𝓤 H (Answers 𝓤 H (𝓖 .A) (𝓜 .mem) (𝓡 .run)) 𝓜 𝓡 code.env answer-def.name answer-def.routine code.calls-answer-numbers·answer (answer-thm.met 𝓤 H 𝓜 𝓖 𝓡))
-    (cited 𝓤 H (StoreSlots 𝓤 H (𝓖 .A) (𝓜 .mem) (𝓡 .run)) 𝓜 𝓡 code.env store-slots-def.name store-slots-def.routine code.calls-lent-rows·store-slots (store-slots-thm.met 𝓤 H 𝓜 𝓖 𝓡))
-    (cited 𝓤 H (StoreRegisters 𝓤 H (𝓖 .A) (𝓜 .mem) (𝓡 .run)) 𝓜 𝓡 code.env store-registers-def.name store-registers-def.routine code.calls-lent-rows·store-registers (store-registers-thm.met 𝓤 H 𝓜 𝓖 𝓡)))
+    (cited 𝓤 H (LoadSlots 𝓤 H (𝓖 .A) (𝓜 .mem) (𝓡 .run)) 𝓜 𝓡 code.env load-slots-def.name load-slots-def.routine code.calls-row-lending·load-slots (load-slots-thm.met 𝓤 H 𝓜 𝓖 𝓡))
+    (cited 𝓤 H (LoadRegisters 𝓤 H (𝓖 .A) (𝓜 .mem) (𝓡 .run)) 𝓜 𝓡 code.env load-registers-def.name load-registers-def.routine code.calls-row-lending·load-registers (load-registers-thm.met 𝓤 H 𝓜 𝓖 𝓡))
+    (cited 𝓤 H (Answers 𝓤 H (𝓖 .A) (𝓜 .mem) (𝓡 .run)) 𝓜 𝓡 code.env answer-def.name answer-def.routine code.calls-entry-numbers·answer (answer-thm.met 𝓤 H 𝓜 𝓖 𝓡))
+    (cited 𝓤 H (StoreSlots 𝓤 H (𝓖 .A) (𝓜 .mem) (𝓡 .run)) 𝓜 𝓡 code.env store-slots-def.name store-slots-def.routine code.calls-row-lending·store-slots (store-slots-thm.met 𝓤 H 𝓜 𝓖 𝓡))
+    (cited 𝓤 H (StoreRegisters 𝓤 H (𝓖 .A) (𝓜 .mem) (𝓡 .run)) 𝓜 𝓡 code.env store-registers-def.name store-registers-def.routine code.calls-row-lending·store-registers (store-registers-thm.met 𝓤 H 𝓜 𝓖 𝓡)))

@@ -1,33 +1,33 @@
 -- `diminurel::diminurel_usable` meets its contract: a walk of its code, by hand. The two slices are passed on to the functions that load them, and what is said of the tables is said of the lent rows. Assumes nothing.
 -- In a step the number of `value`, `look`, `init`, `store` or `leave` is a place in the list of what there is (`Start`): a local takes two, the last local comes first, and what stands before the locals is listed where it changes.
-use Rattle.walks.proofs.Prelude.{refl, ap, ℕ, _<_, _^_, [], _∷_, List, length, URA, Ty, named, imm, w8, w64, tyInt, tyRef, Val, vint, SProp, ent, emp, via, fst∗, id⊢, Lft, Share, ftrue, flft, Memory, Routine, Heap, Env, WpFn, Tables, Atoms, Fun, givenOf, tables, tablesOf, Given, Item, Sq, runs, atRet, ‵, _⊛_, _$_, _∵_, !, qed, move, drop, split, join, fsplit, fjoin, suffices, frame, done, look, init, stop, from, and-then, no-more, land, returns, enter, alloc1, alloc0, params1, pass1, pass0, free0, fmOf, WpFn-mono, owns, Is, pointee, uint-makes, uint-vals, uint-tells, u8, usize, RefT, sliceTy, slice-vals, sliceVal, ShrSlice, Room, shr-slice-tells, owned, nothing, Vals, onEntry, Meets, tripleOf, Contract, Triple, entered, cited, says, Stays, stay-dropped, walkOf, goes-dropped, Walks, ends-at, walked, walk-meets, yes, Param, shrSliceOf, plain}
+use Rattle.hand_proofs.proofs.Prelude.{refl, ap, ℕ, _<_, _^_, [], _∷_, List, length, URA, Ty, named, imm, w8, w64, tyInt, tyRef, Val, vint, SProp, ent, emp, via, fst∗, id⊢, Lft, Share, ftrue, flft, Memory, Routine, Heap, Env, WpFn, Tables, Atoms, Fun, givenOf, tables, tablesOf, Given, Item, Sq, runs, atRet, ‵, _⊛_, _$_, _∵_, !, qed, move, drop, split, join, fsplit, fjoin, suffices, frame, done, look, init, stop, from, and-then, no-more, land, returns, enter, alloc1, alloc0, params1, pass1, pass0, free0, fmOf, WpFn-mono, owns, Is, pointee, uint-makes, uint-vals, uint-tells, u8, usize, RefT, sliceTy, slice-vals, sliceVal, ShrSlice, Room, shr-slice-tells, owned, nothing, Vals, onEntry, Meets, tripleOf, Contract, Triple, entered, cited, says, Stays, stay-dropped, walkOf, goes-dropped, Walks, ends-at, walked, walk-meets, yes, Param, shrSliceOf, plain}
 use denote.Struct.Laws as LL
 use mathlib.Core.List.{_++_}
-use Rattle.rows.specs.declared.SlotRow.{SlotRow}
-use Rattle.rows.specs.declared.RegisterRow.{RegisterRow}
-use Rattle.rows.proofs.SlotRow as slot
-use Rattle.rows.proofs.RegisterRow as register
-use Rattle.lent_rows.specs.Tables.{slotTable, registerTable}
-use Rattle.lent_rows.specs.declared.SlotTable.{SlotTable}
-use Rattle.lent_rows.specs.declared.RegisterTable.{RegisterTable}
-use Rattle.lent_rows.proofs.SlotTable as slots
-use Rattle.lent_rows.proofs.SlotTable.Laws as slots′
-use Rattle.lent_rows.proofs.RegisterTable as registers
-use Rattle.lent_rows.proofs.RegisterTable.Laws as registers′
-use Rattle.walks.proofs.Walk.{unset, holds, value, calls-plain, leave}
-use Rattle.lent_rows.proofs.Lends.{calls-with}
-use Rattle.lent_rows.proofs.load_slots as load-slots
-use Rattle.lent_rows.proofs.load_slots.Symbol as load-slots-def
-use Rattle.lent_rows.proofs.load_slots.Met as load-slots-thm
-use Rattle.lent_rows.proofs.load_registers as load-registers
-use Rattle.lent_rows.proofs.load_registers.Symbol as load-registers-def
-use Rattle.lent_rows.proofs.load_registers.Met as load-registers-thm
+use Rattle.row_types.specs.declared.SlotRow.{SlotRow}
+use Rattle.row_types.specs.declared.RegisterRow.{RegisterRow}
+use Rattle.row_types.proofs.SlotRow as slot
+use Rattle.row_types.proofs.RegisterRow as register
+use Rattle.row_lending.specs.Tables.{slotTable, registerTable}
+use Rattle.row_lending.specs.declared.SlotTable.{SlotTable}
+use Rattle.row_lending.specs.declared.RegisterTable.{RegisterTable}
+use Rattle.row_lending.proofs.SlotTable as slots
+use Rattle.row_lending.proofs.SlotTable.Laws as slots′
+use Rattle.row_lending.proofs.RegisterTable as registers
+use Rattle.row_lending.proofs.RegisterTable.Laws as registers′
+use Rattle.hand_proofs.proofs.Walk.{unset, holds, value, calls-plain, leave}
+use Rattle.row_lending.proofs.Lends.{calls-with}
+use Rattle.row_lending.proofs.load_slots as load-slots
+use Rattle.row_lending.proofs.load_slots.Symbol as load-slots-def
+use Rattle.row_lending.proofs.load_slots.Met as load-slots-thm
+use Rattle.row_lending.proofs.load_registers as load-registers
+use Rattle.row_lending.proofs.load_registers.Symbol as load-registers-def
+use Rattle.row_lending.proofs.load_registers.Met as load-registers-thm
 use Rattle.engine.specs.Usable.{isUsable}
-use Rattle.answer_numbers.specs.Numbers.{yesByte}
-use Rattle.answer_numbers.specs.Joined.{joined}
-use Rattle.answer_numbers.proofs.usable as usable
-use Rattle.answer_numbers.proofs.usable.Symbol as usable-def
-use Rattle.answer_numbers.proofs.usable.Met as usable-thm
+use Rattle.entry_numbers.specs.Numbers.{yesByte}
+use Rattle.entry_numbers.specs.Joined.{joined}
+use Rattle.entry_numbers.proofs.usable as usable
+use Rattle.entry_numbers.proofs.usable.Symbol as usable-def
+use Rattle.entry_numbers.proofs.usable.Met as usable-thm
 use Rattle.diminurel.proofs.LentLaws.{same-usable}
 use Rattle.diminurel.proofs.diminurel_usable as entry
 use Rattle.diminurel.proofs.diminurel_usable.Key.{name}
@@ -142,6 +142,6 @@ diminurel-usable-spec 𝓤 H 𝓜 𝓖 𝓡 =
     entered 𝓤 H (tripleOf 𝓤 H (𝓖 .A) entry.signature (entry.spec 𝓤 H (𝓖 .A) (𝓜 .mem) (𝓡 .run)))
     (tables 𝓤 H 𝓜 𝓡 code.env .C) (tables 𝓤 H 𝓜 𝓡 code.env .Λ) name code.function (code.unfolded 𝓤 H 𝓜 𝓡)
     (meets 𝓤 H (𝓖 .A) (𝓜 .mem) (𝓡 .run) (givenOf 𝓤 H 𝓜 𝓖) (tablesOf 𝓤 H 𝓜 (tables 𝓤 H 𝓜 𝓡 code.env))
-    (cited 𝓤 H (LoadSlots 𝓤 H (𝓖 .A) (𝓜 .mem) (𝓡 .run)) 𝓜 𝓡 code.env load-slots-def.name load-slots-def.routine code.calls-lent-rows·load-slots (load-slots-thm.met 𝓤 H 𝓜 𝓖 𝓡))
-    (cited 𝓤 H (LoadRegisters 𝓤 H (𝓖 .A) (𝓜 .mem) (𝓡 .run)) 𝓜 𝓡 code.env load-registers-def.name load-registers-def.routine code.calls-lent-rows·load-registers (load-registers-thm.met 𝓤 H 𝓜 𝓖 𝓡))
-    (cited 𝓤 H (Usable 𝓤 H (𝓖 .A) (𝓜 .mem) (𝓡 .run)) 𝓜 𝓡 code.env usable-def.name usable-def.routine code.calls-answer-numbers·usable (usable-thm.met 𝓤 H 𝓜 𝓖 𝓡)))
+    (cited 𝓤 H (LoadSlots 𝓤 H (𝓖 .A) (𝓜 .mem) (𝓡 .run)) 𝓜 𝓡 code.env load-slots-def.name load-slots-def.routine code.calls-row-lending·load-slots (load-slots-thm.met 𝓤 H 𝓜 𝓖 𝓡))
+    (cited 𝓤 H (LoadRegisters 𝓤 H (𝓖 .A) (𝓜 .mem) (𝓡 .run)) 𝓜 𝓡 code.env load-registers-def.name load-registers-def.routine code.calls-row-lending·load-registers (load-registers-thm.met 𝓤 H 𝓜 𝓖 𝓡))
+    (cited 𝓤 H (Usable 𝓤 H (𝓖 .A) (𝓜 .mem) (𝓡 .run)) 𝓜 𝓡 code.env usable-def.name usable-def.routine code.calls-entry-numbers·usable (usable-thm.met 𝓤 H 𝓜 𝓖 𝓡)))

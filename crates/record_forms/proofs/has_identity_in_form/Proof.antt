@@ -1,5 +1,5 @@
 -- `record_forms::has_identity_in_form` meets its contract: the identity is the part.
-use Rattle.identities.proofs.Chain.{identity-of}
+use Rattle.record_identities.proofs.Chain.{identity-of}
 use borrow.Author.Needs.{needs}
 use Rattle.record_forms.proofs.has_identity_in_form.Statement.{statement}
 use Rattle.record_forms.proofs.has_identity_in_form.Tie as tie

@@ -2,9 +2,9 @@
 use mathlib.Core.Path.{_≡_, refl}
 use Prim.Native.Nat.{_+_, _-_, _≤_, _<_}
 use lib.ListN.{length, drop}
-use Rattle.rows.specs.Lists.{someRow, distinctRows}
-use Rattle.rows.specs.Index.{isSameNumber}
-use Rattle.rows.proofs.LoopLaws.{some-turn, pairs-ended, pairs-turn, pair-alike}
+use Rattle.row_types.specs.Lists.{someRow, distinctRows}
+use Rattle.row_types.specs.Index.{isSameNumber}
+use Rattle.row_types.proofs.LoopLaws.{some-turn, pairs-ended, pairs-turn, pair-alike}
 use borrow.Author.Needs.{needs}
 use Rattle.register_keys.proofs.are_keys_distinct.Statement.{statement}
 use Rattle.register_keys.proofs.are_keys_distinct.Tie as tie

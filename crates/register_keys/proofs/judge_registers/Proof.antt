@@ -5,8 +5,8 @@ use mathlib.Core.List.{List, [], map}
 use Prim.Native.Nat.{ℕ, _-_, _≤_}
 use native.Mathlib.Omega.{arith}
 use lib.ListN.{length, take, drop}
-use Rattle.rows.specs.Lists.{everyRow}
-use Rattle.rows.specs.Index.{keyNumber}
+use Rattle.row_types.specs.Lists.{everyRow}
+use Rattle.row_types.specs.Index.{keyNumber}
 use Rattle.row_index.specs.Found.{ownerNumber}
 use Rattle.row_index.specs.Lent.{rowWith}
 use Rattle.row_index.proofs.LentLoops.{lent-ended, lent-not, lent-turn, turn-written, turns-ended, untold, every-row}

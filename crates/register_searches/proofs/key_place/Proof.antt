@@ -2,8 +2,8 @@
 use mathlib.Core.Path.{_≡_, refl}
 use Prim.Native.Nat.{_-_, _≤_}
 use lib.ListN.{length, take, drop}
-use Rattle.rows.specs.Lists.{firstFrom}
-use Rattle.rows.proofs.LoopLaws.{first-ended, first-here, first-turn}
+use Rattle.row_types.specs.Lists.{firstFrom}
+use Rattle.row_types.proofs.LoopLaws.{first-ended, first-here, first-turn}
 use Rattle.row_index.specs.Found.{isThe}
 use borrow.Author.Needs.{needs}
 use Rattle.register_searches.proofs.key_place.Statement.{statement}

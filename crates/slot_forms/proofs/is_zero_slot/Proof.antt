@@ -1,5 +1,5 @@
 -- `slot_forms::is_zero_slot` meets its contract: a chain of four tests.
-use Rattle.rows.specs.Slots.{isZeroSlot}
+use Rattle.row_types.specs.Slots.{isZeroSlot}
 use Rattle.slot_forms.proofs.FormLaws.{zeroCases}
 use borrow.Author.Needs.{needs}
 use Rattle.slot_forms.proofs.is_zero_slot.Statement.{statement}

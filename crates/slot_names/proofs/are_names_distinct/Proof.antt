@@ -2,9 +2,9 @@
 use mathlib.Core.Path.{_≡_, refl}
 use Prim.Native.Nat.{_+_, _-_, _≤_, _<_}
 use lib.ListN.{length, drop}
-use Rattle.rows.specs.Lists.{someRow, distinctRows}
-use Rattle.rows.specs.Index.{isCalled, isSameName}
-use Rattle.rows.proofs.LoopLaws.{some-turn, pairs-ended}
+use Rattle.row_types.specs.Lists.{someRow, distinctRows}
+use Rattle.row_types.specs.Index.{isCalled, isSameName}
+use Rattle.row_types.proofs.LoopLaws.{some-turn, pairs-ended}
 use Rattle.slot_names.proofs.NameLaws.{names-turn, names-alike}
 use borrow.Author.Needs.{needs}
 use Rattle.slot_names.proofs.are_names_distinct.Statement.{statement}

@@ -2,8 +2,8 @@
 use mathlib.Core.Path.{_≡_, refl}
 use Prim.Native.Nat.{_+_, _-_, _≤_}
 use lib.ListN.{length, drop}
-use Rattle.rows.specs.Lists.{firstFrom}
-use Rattle.rows.specs.Index.{isCalled}
+use Rattle.row_types.specs.Lists.{firstFrom}
+use Rattle.row_types.specs.Index.{isCalled}
 use Rattle.row_index.specs.Found.{orZero, numberOf}
 use Rattle.row_index.proofs.NumberOf.{number-ended, number-here, number-turn}
 use borrow.Author.Needs.{needs}

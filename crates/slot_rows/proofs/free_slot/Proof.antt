@@ -1,6 +1,6 @@
 -- `slot_rows::free_slot` meets its contract by computation.
 use mathlib.Core.Path.{refl}
-use Rattle.rows.specs.Slots.{freeSlot}
+use Rattle.row_types.specs.Slots.{freeSlot}
 use Rattle.slot_rows.proofs.free_slot.Statement.{statement}
 use Rattle.slot_rows.proofs.free_slot.Tie as tie
 

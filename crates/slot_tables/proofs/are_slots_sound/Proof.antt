@@ -3,9 +3,9 @@ use mathlib.Core.Path.{_≡_, refl}
 use Prim.Native.Nat.{_-_, _≤_}
 use borrow.Author.Needs.{needs}
 use lib.ListN.{length, drop, take}
-use Rattle.rows.specs.Lists.{everyRow}
-use Rattle.rows.specs.Slots.{isSlotSound}
-use Rattle.rows.proofs.LoopLaws.{every-ended, every-not, every-turn}
+use Rattle.row_types.specs.Lists.{everyRow}
+use Rattle.row_types.specs.Slots.{isSlotSound}
+use Rattle.row_types.proofs.LoopLaws.{every-ended, every-not, every-turn}
 use Rattle.slot_tables.proofs.are_slots_sound.Statement.{statement}
 use Rattle.slot_tables.proofs.are_slots_sound.Tie as tie
 

@@ -5,9 +5,9 @@ use Prim.Native.Nat.{ℕ, _+_, _-_, _≤_, _<_}
 use borrow.Author.Needs.{needs}
 use lib.ListN.{length, getD, drop, set}
 use lib.Seq.{sets}
-use Rattle.rows.specs.Index.{keptName}
-use Rattle.rows.specs.declared.SlotRow.{SlotRow}
-use Rattle.rows.proofs.LoopLaws.{fill-start, fill-turn, fill-ended}
+use Rattle.row_types.specs.Index.{keptName}
+use Rattle.row_types.specs.declared.SlotRow.{SlotRow}
+use Rattle.row_types.proofs.LoopLaws.{fill-start, fill-turn, fill-ended}
 use Rattle.slot_tables.proofs.names_of.Statement.{statement}
 use Rattle.slot_tables.proofs.names_of.Tie as tie
 

@@ -1,8 +1,8 @@
 -- `slot_tables::reset_slots` meets its contract: the rows before i are swept, and those beyond n as they were.
 use Prim.Native.Nat.{_-_, _≤_}
 use borrow.Author.Needs.{needs}
-use Rattle.rows.specs.Slots.{resetSlot}
-use Rattle.rows.proofs.LoopLaws.{Sweeping, sweep-starts, sweep-turn, sweep-ends}
+use Rattle.row_types.specs.Slots.{resetSlot}
+use Rattle.row_types.proofs.LoopLaws.{Sweeping, sweep-starts, sweep-turn, sweep-ends}
 use Rattle.slot_tables.proofs.reset_slots.Statement.{statement}
 use Rattle.slot_tables.proofs.reset_slots.Tie as tie
 

@@ -3,9 +3,9 @@ use mathlib.Core.Path.{_≡_, refl}
 use Prim.Native.Nat.{_-_, _≤_}
 use borrow.Author.Needs.{needs}
 use lib.ListN.{length, drop, take}
-use Rattle.rows.specs.Lists.{firstFrom}
-use Rattle.rows.specs.Slots.{isNamed}
-use Rattle.rows.proofs.LoopLaws.{first-ended, first-here, first-turn}
+use Rattle.row_types.specs.Lists.{firstFrom}
+use Rattle.row_types.specs.Slots.{isNamed}
+use Rattle.row_types.proofs.LoopLaws.{first-ended, first-here, first-turn}
 use Rattle.slot_tables.proofs.slot_place.Statement.{statement}
 use Rattle.slot_tables.proofs.slot_place.Tie as tie
 

@@ -1,0 +1,86 @@
+// A request's payload as the fields of one command (document 01, "Questions in order", 8): none, one string, one
+// number, or two strings, and nothing over. The fields come from the payload's reader; one of another type than the
+// command lists ends the reading.
+use card_entries::Found;
+use field_values::Field;
+ghost use mathlib.Core.Path.{_≡_};
+ghost use lib.ListN.{length};
+ghost use Rattle.field_values.specs.Values.{valuesOf};
+ghost use Rattle.card_entries.specs.Entries.{between, Within};
+ghost use Rattle.message_commands.specs.declared.Command.the-variants.{RS};
+ghost use Rattle.engine.specs.Requests.{areFieldsOf};
+ghost use Rattle.decide_payloads.specs.Payloads.{textIn, numberIn, firstTextIn, secondTextIn, countIn};
+ghost use Rattle.decide_payloads.specs.Payloads.{firstBetween};
+ghost use Rattle.decide_payloads.specs.Payloads.{secondBetween, TwoWithin};
+
+// A number that was read.
+pub enum Count {
+    Is(u32),
+    Nothing,
+}
+
+// Where two strings stand: the first from start to end, the second between from and to.
+pub enum TwoTexts {
+    At {
+        start: usize,
+        end: usize,
+        from: usize,
+        to: usize,
+    },
+    Nothing,
+}
+
+// Whether the payload has no field.
+pub fn has_no_field(p: &[u8]) -> bool
+    ensures { λ r. ⌜ r ≡ areFieldsOf RS (valuesOf (now (p .entry))) ⌝ }
+{
+    p.len() == 0
+}
+
+// The only field, a string: its bounds.
+pub fn one_text(p: &[u8]) -> Found
+    ensures { λ r. ⌜ between (now (p .entry)) r ≡ textIn (valuesOf (now (p .entry))) ⌝ }
+    ensures within { λ r. ⌜ Within (length (now (p .entry))) r ⌝ }
+{
+    let Field::Text { start, end } = field_reader::only_field(p) else {
+        return Found::Nothing;
+    };
+    Found::At { start, end }
+}
+
+// The only field, a number.
+pub fn one_number(p: &[u8]) -> Count
+    ensures { λ r. ⌜ countIn r ≡ numberIn (valuesOf (now (p .entry))) ⌝ }
+{
+    let Field::Number(n) = field_reader::only_field(p) else {
+        return Count::Nothing;
+    };
+    Count::Is(n)
+}
+
+// The two fields, both strings: their bounds.
+pub fn two_texts(p: &[u8]) -> TwoTexts
+    ensures { λ r. ⌜ firstBetween (now (p .entry)) r ≡ firstTextIn (valuesOf (now (p .entry))) ⌝ }
+    ensures second { λ r. ⌜ secondBetween (now (p .entry)) r ≡ secondTextIn (valuesOf (now (p .entry))) ⌝ }
+    ensures within { λ r. ⌜ TwoWithin (length (now (p .entry))) r ⌝ }
+{
+    let two = field_reader::two_fields(p);
+    let first = two.first;
+    let Field::Text { start, end } = first else {
+        return TwoTexts::Nothing;
+    };
+    let second = two.second;
+    let Field::Text {
+        start: from,
+        end: to,
+    } = second
+    else {
+        return TwoTexts::Nothing;
+    };
+    TwoTexts::At {
+        start,
+        end,
+        from,
+        to,
+    }
+}

@@ -1,0 +1,17 @@
+-- `decide_records::card_key` meets its contract: SGC and KRN have ten digits at most.
+use Rattle.decide_records.proofs.RegisterLaws.{group-short, revision-short, key-of}
+use borrow.Author.Needs.{needs}
+use Rattle.decide_records.proofs.card_key.Statement.{statement}
+use Rattle.decide_records.proofs.card_key.Tie as tie
+
+pub card-key-spec : {M : Type 1} → statement M
+card-key-spec =
+    tie.close
+    (tie.spec
+    (λ c κs. search needs)
+    (λ c κs. search (group-short, revision-short))
+    (λ c κs. search needs)
+    (λ c κs. search (group-short, revision-short))
+    (λ c. search needs)
+    (λ c. search needs)
+    (λ c. search key-of))

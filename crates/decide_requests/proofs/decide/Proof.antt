@@ -1,0 +1,29 @@
+-- `decide_requests::decide` meets its contract, a law a return. `third` is what question 3 answered of the rows.
+use Rattle.decide_counts.proofs.CountLaws.{in-range, few-slots, few-registers}
+use Rattle.decide_requests.proofs.CallLaws.{counts-refused, room-refused, rows-refused, supplement-refused, frame-refused, checksum-refused, header-refused, command-decided, is-one-of-ten}
+use borrow.Author.Tests.{not-false}
+use borrow.Author.Needs.{needs}
+use Rattle.decide_requests.proofs.decide.Statement.{statement}
+use Rattle.decide_requests.proofs.decide.Tie as tie
+
+pub decide-spec : {M : Type 1} → statement M
+decide-spec =
+    tie.close
+    (tie.spec
+    (λ c κs. search needs)
+    (λ c. search counts-refused)
+    (λ c. search room-refused)
+    (λ c R found. let third = found (search in-range) in search rows-refused)
+    (λ c κs. search needs)
+    (λ c R found. let third = found (search in-range) in search supplement-refused)
+    (λ c κs. search needs)
+    (λ c R found. let third = found (search in-range) in search frame-refused)
+    (λ c κs. search needs)
+    (λ c R found. let third = found (search in-range) in search checksum-refused)
+    (λ c κs. search needs)
+    (λ c κs. search needs)
+    (λ c κs. search needs)
+    (λ c R found. let third = found (search in-range) in search header-refused)
+    (λ c κs. search needs)
+    (λ c κs. (search few-slots, search few-registers, search is-one-of-ten))
+    (λ c R found. let third = found (search in-range) in let keyed = third .1 (search not-false) in search command-decided))

@@ -1,0 +1,87 @@
+// What is to be done with a request (document 01, "Questions in order"): questions 1 to 7 are asked in turn, and then
+// those of its command.
+use engine::Decision;
+use engine::Refusal;
+use message_commands::Command;
+use row_types::SlotRow;
+use row_types::Supplement;
+ghost use mathlib.Core.Path.{_≡_};
+ghost use mathlib.Core.Bool.{true};
+ghost use mathlib.Core.List.{List};
+ghost use lib.ListN.{take};
+ghost use Rattle.row_types.specs.declared.RegisterRow.{RegisterRow};
+ghost use Rattle.row_index.specs.Lent.{tablesWith};
+ghost use Rattle.engine.specs.Requests.{isOneOfTen};
+ghost use Rattle.engine.specs.Questions.{areCounts};
+ghost use Rattle.engine.specs.Calls.{callIn};
+ghost use Rattle.engine.specs.Decisions.{decisionOf};
+ghost use Rattle.decide_requests.specs.Found.{IsFound};
+
+// Question 7: whether the header is one of the ten.
+fn is_one_of_ten(command: Command) -> bool
+    ensures { λ b. ⌜ b ≡ isOneOfTen command ⌝ }
+{
+    match command {
+        Command::RS => true,
+        Command::KC => true,
+        Command::KR => true,
+        Command::KL => true,
+        Command::KF => true,
+        Command::KX => true,
+        Command::KD => true,
+        Command::GA => true,
+        Command::GL => true,
+        Command::KQ => true,
+        Command::Unknown => false,
+    }
+}
+
+// What is to be done with a request; question 3 was answered before, with what it found of the registers.
+pub fn decide(
+    slots: [SlotRow; 8],
+    slot_count: usize,
+    register_count: usize,
+    sound: bool,
+    keys: [u64; 32],
+    supplement: Supplement,
+    request: &[u8],
+    room: usize,
+) -> Decision
+    ensures { λ d. ⌜ ((R : List RegisterRow)
+        → (areCounts «slot_count» «register_count» ≡ true
+        → IsFound sound keys (take «slot_count» slots) (take «register_count» R) «register_count»)
+        → d ≡ decisionOf (callIn (tablesWith slots «slot_count» R «register_count»)
+        supplement (now (request .entry)) room)) ⌝ }
+{
+    if !decide_counts::are_counts(slot_count, register_count) {
+        return Decision::Refuse(Refusal::RowCounts);
+    }
+    if room < 1024 {
+        return Decision::Refuse(Refusal::ShortBuffer);
+    }
+    if !sound {
+        return Decision::Refuse(Refusal::UnsoundRows);
+    }
+    if !row_supplements::is_well_formed(supplement) {
+        return Decision::Refuse(Refusal::BadSupplement);
+    }
+    if !message_frames::is_whole(request) {
+        return Decision::Refuse(Refusal::BadFrame);
+    }
+    if !message_frames::is_checked(request) {
+        return Decision::Refuse(Refusal::BadChecksum);
+    }
+    let command = message_commands::command_of(message_frames::header(request));
+    if !is_one_of_ten(command) {
+        return Decision::Refuse(Refusal::UnknownHeader);
+    }
+    decide_commands::decide_command(
+        command,
+        slots,
+        slot_count,
+        keys,
+        register_count,
+        supplement,
+        message_frames::payload(request),
+    )
+}

@@ -1,0 +1,195 @@
+-- Each case of a decision, with what the code knows where it answers as premises.
+use mathlib.Core.Path.{_≡_, refl, sym}
+use mathlib.Core.Bool.{true}
+use mathlib.Core.List.{List, [], _∷_}
+use Prim.Native.Nat.{ℕ, _+_, _*_, _^_, _≤_, _<_}
+use native.Mathlib.Omega.{arith}
+use types.Run.{OneOf, miss}
+use denote.Enum.Declared.{tagOf}
+use lib.ListN.{length, getD, set, take, replicate}
+use lib.Seq.{length-take-le, take-at}
+use Rattle.field_values.specs.Values.{Value}
+use Rattle.card_stored.specs.Stored.{inRow}
+use Rattle.message_commands.specs.declared.Command.the-variants.{KL, KF}
+use Rattle.row_types.specs.Lists.{mapped}
+use Rattle.row_types.specs.Slots.{freeSlot, movedSlot, resetSlot}
+use Rattle.row_types.specs.Registers.{freeRegister, filledRegister, withoutSlot}
+use Rattle.card_writer.specs.declared.Stored.{Stored}
+use Rattle.row_types.specs.declared.SlotRow.{SlotRow}
+use Rattle.row_types.specs.declared.RegisterRow.{RegisterRow}
+use Rattle.row_types.specs.declared.Supplement.{Supplement}
+use Rattle.row_types.specs.declared.SlotState.the-variants.{Loading, Idle}
+use Rattle.row_types.proofs.ListLaws.{map-set}
+use Rattle.row_types.proofs.PlaceCounts.{getD-any}
+use Rattle.engine.specs.Requests.{areFieldsOf, firstText}
+use Rattle.engine.specs.declared.Decision.{Decision}
+use Rattle.engine.specs.declared.Decision.the-variants.{Refuse, Reset, Pend, Open, Load, Finish, Delete, Clear, Show, Enumerate, Query}
+use Rattle.engine.proofs.Decision.{the-type}
+use Rattle.response_parts.specs.Parts.{pendingRow, cardOf}
+use Rattle.row_index.specs.Found.{AreOwnedBy}
+use Rattle.row_index.specs.Lent.{rowWith, rowsWith}
+use Rattle.register_tables.specs.Freed.{freed}
+use Rattle.register_tables.proofs.FreedLaws.{freed-rows}
+use Rattle.entry_changes.specs.Changes.{slotsAfter, registersAfter, CanChangeSlots, CanChangeRegisters, HasStored}
+
+-- a slot row takes 73 bytes, a card 256
+slot-fits : (k : ℕ) → k < 8 → k * 73 < 2 ^ 64
+slot-fits k h = omega arith
+
+register-fits : (k : ℕ) → k < 32 → k * 256 < 2 ^ 64
+register-fits k h = omega arith
+
+-- change_slots
+module _ (d : Decision) (n : ℕ) (vs : List Value) (can : CanChangeSlots d n vs) where
+  pub reset-can : d ≡ Reset → n ≤ 8
+  reset-can e = rw e at can
+
+  module _ (k : ℕ) where
+    module _ (e : d ≡ Pend k) where
+      pub pend-can : k < 8
+      pend-can = (rw e at can) .0
+
+      pub pend-fits : k * 73 < 2 ^ 64
+      pend-fits = slot-fits k pend-can
+
+      pub pend-fields : areFieldsOf KF vs ≡ true
+      pend-fields = (rw e at can) .1
+
+    module _ (e : d ≡ Open k) where
+      pub open-can : k < 8
+      open-can = rw e at can
+
+      pub open-fits : k * 73 < 2 ^ 64
+      open-fits = slot-fits k open-can
+
+    module _ (e : d ≡ Finish k) where
+      pub finish-can : k < 8
+      finish-can = rw e at can
+
+      pub finish-fits : k * 73 < 2 ^ 64
+      finish-fits = slot-fits k finish-can
+
+    module _ (e : d ≡ Delete k) where
+      pub delete-can : k < 8
+      delete-can = rw e at can
+
+      pub delete-fits : k * 73 < 2 ^ 64
+      delete-fits = slot-fits k delete-can
+
+-- the decisions that change no slot, and those that change no register
+abbrev slotless : List ℕ
+slotless = 0 ∷ 4 ∷ 7 ∷ 8 ∷ 9 ∷ 10 ∷ []
+
+abbrev registerless : List ℕ
+registerless = 0 ∷ 1 ∷ 2 ∷ 3 ∷ 5 ∷ 8 ∷ 9 ∷ 10 ∷ []
+
+pub slots-kept : (d : Decision) (n : ℕ) (l : List SlotRow) (x : Supplement) (vs : List Value) → OneOf slotless (tagOf the-type d) → l ≡ slotsAfter d n l x vs
+slots-kept (Refuse r) n l x vs o = refl
+slots-kept Reset n l x vs o = absurd (miss slotless 1 tt o)
+slots-kept (Pend k) n l x vs o = absurd (miss slotless 2 tt o)
+slots-kept (Open k) n l x vs o = absurd (miss slotless 3 tt o)
+slots-kept (Load k) n l x vs o = refl
+slots-kept (Finish k) n l x vs o = absurd (miss slotless 5 tt o)
+slots-kept (Delete k) n l x vs o = absurd (miss slotless 6 tt o)
+slots-kept (Clear k) n l x vs o = refl
+slots-kept (Show k) n l x vs o = refl
+slots-kept Enumerate n l x vs o = refl
+slots-kept (Query k) n l x vs o = refl
+
+pub registers-kept : (d : Decision) (m : ℕ) (l : List RegisterRow) (x : Supplement) (vs : List Value) → OneOf registerless (tagOf the-type d) → l ≡ registersAfter d m l x vs
+registers-kept (Refuse r) m l x vs o = refl
+registers-kept Reset m l x vs o = refl
+registers-kept (Pend k) m l x vs o = refl
+registers-kept (Open k) m l x vs o = refl
+registers-kept (Load k) m l x vs o = absurd (miss registerless 4 tt o)
+registers-kept (Finish k) m l x vs o = refl
+registers-kept (Delete k) m l x vs o = absurd (miss registerless 6 tt o)
+registers-kept (Clear k) m l x vs o = absurd (miss registerless 7 tt o)
+registers-kept (Show k) m l x vs o = refl
+registers-kept Enumerate m l x vs o = refl
+registers-kept (Query k) m l x vs o = refl
+
+module _ (d : Decision) (n : ℕ) (l : List SlotRow) (x : Supplement) (vs : List Value) where
+  pub reset-made : d ≡ Reset → (u : List SlotRow) → u ≡ mapped n resetSlot l → u ≡ slotsAfter d n l x vs
+  reset-made e u p = rw e p
+
+  module _ (k : ℕ) (r : SlotRow) where
+    pub pend-made : d ≡ Pend k → r ≡ pendingRow (x .clock) vs → set l k r ≡ slotsAfter d n l x vs
+    pend-made e p = rw (e, p) refl
+
+    pub delete-made : d ≡ Delete k → r ≡ freeSlot → set l k r ≡ slotsAfter d n l x vs
+    delete-made e p = rw (e, p) refl
+
+    module _ (z : length l ≡ 8) (y : SlotRow) where
+      pub open-made : d ≡ Open k → k < 8 → r ≡ movedSlot Loading (getD l k y) → set l k r ≡ slotsAfter d n l x vs
+      open-made e h p = rw (e, p, getD-any l k y freeSlot (omega arith)) refl
+
+      pub finish-made : d ≡ Finish k → k < 8 → r ≡ movedSlot Idle (getD l k y) → set l k r ≡ slotsAfter d n l x vs
+      finish-made e h p = rw (e, p, getD-any l k y freeSlot (omega arith)) refl
+
+-- change_registers: l are the cards
+module _ (d : Decision) (m : ℕ) (owners : List ℕ) (l : List (List ℕ)) (x : Supplement) (vs : List Value) (can : CanChangeRegisters d m owners (rowsWith l) x vs) (k : ℕ) where
+  module _ (e : d ≡ Load k) where
+    pub load-can : k < 32
+    load-can = (rw e at can) .0
+
+    pub load-fits : k * 256 < 2 ^ 64
+    load-fits = register-fits k load-can
+
+    pub load-fields : areFieldsOf KL vs ≡ true
+    load-fields = (rw e at can) .1 .0
+
+    pub load-length : length (cardOf x vs) ≤ 256
+    load-length = (rw e at can) .1 .1
+
+    pub load-made : (c : List ℕ) → c ≡ inRow (cardOf x vs) → rowsWith (set l k c) ≡ registersAfter d m (rowsWith l) x vs
+    unfolding filledRegister
+    load-made c p = rw (e, p) (map-set rowWith l k (inRow (cardOf x vs)))
+
+  module _ (e : d ≡ Delete k) where
+    pub delete-sum : (j : ℕ) → j ≤ 8 → k + j < 2 ^ 64
+    delete-sum j l = let h : k < 8 = (rw e at can) .0 in omega arith
+
+    pub delete-count : m ≤ 32
+    delete-count = (rw e at can) .1 .0
+
+    pub delete-cards : length l ≡ 32 → m ≤ length l
+    delete-cards z = let h = delete-count in omega arith
+
+    pub cards-freed : length owners ≡ 32 → (u : List (List ℕ)) → u ≡ freed (k + 1) (take m owners) l → rowsWith u ≡ registersAfter d m (rowsWith l) x vs
+    cards-freed z u p =
+        let h = delete-count in
+        rw (e, p) (freed-rows (k + 1) (firstText vs) (take m owners) m l ((rw e at can) .1 .1) (length-take-le m owners (omega arith)))
+
+  module _ (e : d ≡ Clear k) where
+    pub clear-can : k < 32
+    clear-can = rw e at can
+
+    pub clear-fits : k * 256 < 2 ^ 64
+    clear-fits = register-fits k clear-can
+
+    pub clear-made : rowsWith (set l k (replicate 256 0)) ≡ registersAfter d m (rowsWith l) x vs
+    unfolding freeRegister
+    clear-made = rw e (map-set rowWith l k (replicate 256 0))
+
+-- the card that was stored
+pub has-stored : (d : Decision) (x : Supplement) (vs : List Value) (s : Stored) → s .card ≡ inRow (cardOf x vs) → s .length ≡ length (cardOf x vs) → length (cardOf x vs) ≤ 256 → HasStored d s x vs
+unfolding inRow
+has-stored d x vs s e n h k p = (omega (arith, n), (rw e (take-at (cardOf x vs) _ (s .length) (sym n))))
+
+-- no other decision is a load
+module _ (d : Decision) (x : Supplement) (vs : List Value) (s : Stored) where
+  pub delete-stores-none : (j : ℕ) → d ≡ Delete j → HasStored d s x vs
+  delete-stores-none j e k p =
+      let a : tagOf the-type d ≡ 4 = rw p refl in
+      let b : tagOf the-type d ≡ 6 = rw e refl in
+      absurd (omega (arith, a, b))
+
+  pub clear-stores-none : (j : ℕ) → d ≡ Clear j → HasStored d s x vs
+  clear-stores-none j e k p =
+      let a : tagOf the-type d ≡ 4 = rw p refl in
+      let b : tagOf the-type d ≡ 7 = rw e refl in
+      absurd (omega (arith, a, b))
+
+  pub stores-none : OneOf registerless (tagOf the-type d) → HasStored d s x vs
+  stores-none o k p = absurd (miss registerless 4 tt (rw p at o))

@@ -1,0 +1,100 @@
+-- The rows after a decision (document 01, Slots and registers): n slot rows and m register rows are the caller's, l are
+-- the places that hold them, x is the supplement, vs are the request's fields, k is the place of a row, counted from 0.
+use Prim.Native.Nat.{ℕ, _+_, _≤_, _<_}
+use mathlib.Core.Path.{_≡_}
+use mathlib.Core.Bool.{true}
+use mathlib.Core.List.{List}
+use lib.ListN.{length, getD, set, take}
+use Rattle.field_values.specs.Values.{Value}
+use Rattle.message_commands.specs.declared.Command.the-variants.{KL, KF}
+use Rattle.row_types.specs.Lists.{mapped}
+use Rattle.row_types.specs.Slots.{freeSlot, movedSlot, resetSlot}
+use Rattle.row_types.specs.Registers.{freeRegister, filledRegister, withoutSlot}
+use Rattle.card_writer.specs.declared.Stored.{Stored}
+use Rattle.row_types.specs.declared.SlotRow.{SlotRow}
+use Rattle.row_types.specs.declared.RegisterRow.{RegisterRow}
+use Rattle.row_types.specs.declared.Supplement.{Supplement}
+use Rattle.row_types.specs.declared.Tables.{Tables}
+use Rattle.row_types.specs.declared.SlotState.the-variants.{Loading, Idle}
+use Rattle.row_index.specs.Found.{AreOwnedBy}
+use Rattle.engine.specs.Requests.{areFieldsOf, firstText}
+use Rattle.response_parts.specs.Parts.{pendingRow, cardOf}
+use Rattle.engine.specs.declared.Decision.{Decision}
+use Rattle.engine.specs.declared.Decision.the-variants.{Refuse, Reset, Pend, Open, Load, Finish}
+use Rattle.engine.specs.declared.Decision.the-variants.{Delete, Clear, Show, Enumerate, Query}
+
+-- the slot rows: no refusal changes one, nor do SM?KL, SM?KD and the three commands that only read
+abbrev pub slotsAfter : Decision → ℕ → List SlotRow → Supplement → List Value → List SlotRow
+slotsAfter (Refuse r) n l x vs = l
+slotsAfter Reset n l x vs = mapped n resetSlot l  -- GL?RS: PENDING and LOADING become IDLE
+slotsAfter (Pend k) n l x vs = set l k (pendingRow (x .clock) vs)  -- SM?KC: PENDING, with the clock as TVP
+slotsAfter (Open k) n l x vs = set l k (movedSlot Loading (getD l k freeSlot))  -- SM?KR: PENDING becomes LOADING
+slotsAfter (Load k) n l x vs = l
+slotsAfter (Finish k) n l x vs = set l k (movedSlot Idle (getD l k freeSlot))  -- SM?KF: PENDING or LOADING becomes IDLE
+slotsAfter (Delete k) n l x vs = set l k freeSlot  -- SM?KX: the row becomes free
+slotsAfter (Clear k) n l x vs = l
+slotsAfter (Show k) n l x vs = l
+slotsAfter Enumerate n l x vs = l
+slotsAfter (Query k) n l x vs = l
+
+-- the register rows
+abbrev pub registersAfter : Decision → ℕ → List RegisterRow → Supplement → List Value → List RegisterRow
+registersAfter (Refuse r) m l x vs = l
+registersAfter Reset m l x vs = l
+registersAfter (Pend k) m l x vs = l
+registersAfter (Open k) m l x vs = l
+registersAfter (Load k) m l x vs = set l k (filledRegister (cardOf x vs))  -- SM?KL: the key goes to the register
+registersAfter (Finish k) m l x vs = l
+registersAfter (Delete k) m l x vs = mapped m (withoutSlot (firstText vs)) l  -- SM?KX: just those whose KSL is it
+registersAfter (Clear k) m l x vs = set l k freeRegister  -- SM?KD: that register becomes free
+registersAfter (Show k) m l x vs = l
+registersAfter Enumerate m l x vs = l
+registersAfter (Query k) m l x vs = l
+
+-- both tables
+abbrev pub tablesFor : Decision → Tables → Supplement → List Value → Tables
+tablesFor d t x vs = record {
+  slots = slotsAfter d (t .«slot_count») (t .slots) x vs;
+  registers = registersAfter d (t .«register_count») (t .registers) x vs;
+  «slot_count» = t .«slot_count»;
+  «register_count» = t .«register_count»;
+}
+
+-- what makes the change of the slot rows fit; it is known of each decision
+abbrev pub CanChangeSlots : Decision → ℕ → List Value → Type 0
+CanChangeSlots (Refuse r) n vs = Unit {0}
+CanChangeSlots Reset n vs = n ≤ 8
+CanChangeSlots (Pend k) n vs = (k < 8) × (areFieldsOf KF vs ≡ true)
+CanChangeSlots (Open k) n vs = k < 8
+CanChangeSlots (Load k) n vs = Unit {0}
+CanChangeSlots (Finish k) n vs = k < 8
+CanChangeSlots (Delete k) n vs = k < 8
+CanChangeSlots (Clear k) n vs = Unit {0}
+CanChangeSlots (Show k) n vs = Unit {0}
+CanChangeSlots Enumerate n vs = Unit {0}
+CanChangeSlots (Query k) n vs = Unit {0}
+
+-- what makes the change of the register rows fit, and of SM?KX that the owners have the slot's number just at its
+-- registers; it is known of each decision
+abbrev pub CanChangeRegisters : Decision → ℕ → List ℕ → List RegisterRow → Supplement → List Value → Type 0
+CanChangeRegisters (Refuse r) m owners l x vs = Unit {0}
+CanChangeRegisters Reset m owners l x vs = Unit {0}
+CanChangeRegisters (Pend k) m owners l x vs = Unit {0}
+CanChangeRegisters (Open k) m owners l x vs = Unit {0}
+CanChangeRegisters (Load k) m owners l x vs =
+    (k < 32)
+    × ((areFieldsOf KL vs ≡ true)
+    × (length (cardOf x vs) ≤ 256))
+CanChangeRegisters (Finish k) m owners l x vs = Unit {0}
+CanChangeRegisters (Delete k) m owners l x vs =
+    (k < 8)
+    × ((m ≤ 32)
+    × AreOwnedBy (k + 1) (firstText vs) (take m owners) (take m l))
+CanChangeRegisters (Clear k) m owners l x vs = k < 32
+CanChangeRegisters (Show k) m owners l x vs = Unit {0}
+CanChangeRegisters Enumerate m owners l x vs = Unit {0}
+CanChangeRegisters (Query k) m owners l x vs = Unit {0}
+
+-- the card that SM?KL stored, in as much of the space as it is long
+abbrev pub HasStored : Decision → Stored → Supplement → List Value → Type 0
+HasStored d s x vs = (k : ℕ) → d ≡ Load k → (s .length ≤ 256) × (take (s .length) (s .card) ≡ cardOf x vs)

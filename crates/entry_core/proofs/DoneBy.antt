@@ -1,0 +1,125 @@
+-- What is done on a decision is what the answer says: outcome, response and rows.
+use mathlib.Core.Path.{_≡_, refl, sym, ap, _∙_}
+use mathlib.Core.Bool.{false}
+use mathlib.Core.List.{List, [], _∷_}
+use Prim.Native.Nat.{ℕ, _-_, _<_}
+use lib.ListN.{length, getD}
+use Rattle.message_commands.specs.declared.Command.the-variants.{KC, KR, KL, KF, KX, KQ}
+use Rattle.field_values.specs.Values.{string}
+use Rattle.message_frames.specs.Frames.{headerOf}
+use Rattle.message_replies.specs.Responses.{responseBytes}
+use Rattle.row_types.specs.Places.{slotRows, registerRows}
+use Rattle.row_types.specs.Slots.{freeSlot}
+use Rattle.row_types.specs.Registers.{freeRegister}
+use Rattle.row_types.specs.RowReplies.{storedIn, slotNames, queryFields}
+use Rattle.row_types.specs.declared.SlotRow.{SlotRow}
+use Rattle.row_types.specs.declared.RegisterRow.{RegisterRow}
+use Rattle.row_types.specs.declared.Supplement.{Supplement}
+use Rattle.row_types.specs.declared.Tables.{Tables}
+use Rattle.engine.specs.Requests.{fieldsIn, registerIn, recordIn, slotIn, cardIn}
+use Rattle.engine.specs.Questions.{Call, placeIn, slotPlace, sessionPlace, slotNamed, registerNumbered}
+use Rattle.engine.specs.Answers.{Answer, response, accepted, cardPlace, refused, answered, listed, effect, answerOf}
+use Rattle.engine.specs.Calls.{callIn}
+use Rattle.engine.specs.Decisions.{decisionOf}
+use Rattle.engine.specs.declared.Decision.{Decision}
+use Rattle.engine.specs.declared.Decision.the-variants.{Refuse, Reset, Pend, Open, Load, Finish, Delete, Clear, Show, Enumerate, Query}
+use Rattle.engine.proofs.DecisionLaws.{commandFor, isRefuse, refused-answer, granted-answer}
+use Rattle.engine.proofs.Places.{filled-below}
+use Rattle.response_requests.specs.Responding.{outcomeFor, responseFor}
+use Rattle.entry_core.proofs.Front.{getD-front}
+use Rattle.entry_core.proofs.Asked.{asked-of, slot-below}
+
+-- the answer of a decision that carries its command out
+pub effect-of : (c : Call) (d : Decision) → decisionOf c ≡ d → isRefuse d ≡ false → effect c (commandFor d) (fieldsIn (c .request)) (recordIn (commandFor d) (fieldsIn (c .request))) (slotIn (commandFor d) (fieldsIn (c .request))) ≡ answerOf c
+effect-of c d e n = sym (granted-answer c d e n .answers)
+
+pub outcome-is : (c : Call) (d : Decision) → decisionOf c ≡ d → outcomeFor d ≡ answerOf c .outcome
+unfolding refused answered listed
+outcome-is c (Refuse r) e = rw (refused-answer c r e) refl
+outcome-is c Reset e = ap (λ (a : Answer). a .outcome) (effect-of c Reset e refl)
+outcome-is c (Pend k) e = ap (λ (a : Answer). a .outcome) (effect-of c (Pend k) e refl)
+outcome-is c (Open k) e = ap (λ (a : Answer). a .outcome) (effect-of c (Open k) e refl)
+outcome-is c (Load k) e = ap (λ (a : Answer). a .outcome) (effect-of c (Load k) e refl)
+outcome-is c (Finish k) e = ap (λ (a : Answer). a .outcome) (effect-of c (Finish k) e refl)
+outcome-is c (Delete k) e = ap (λ (a : Answer). a .outcome) (effect-of c (Delete k) e refl)
+outcome-is c (Clear k) e = ap (λ (a : Answer). a .outcome) (effect-of c (Clear k) e refl)
+outcome-is c (Show k) e = ap (λ (a : Answer). a .outcome) (effect-of c (Show k) e refl)
+outcome-is c Enumerate e = ap (λ (a : Answer). a .outcome) (effect-of c Enumerate e refl)
+outcome-is c (Query k) e = ap (λ (a : Answer). a .outcome) (effect-of c (Query k) e refl)
+
+-- the place that a decision names
+abbrev placeFor : Decision → ℕ
+placeFor (Refuse r) = 0
+placeFor Reset = 0
+placeFor (Pend k) = k
+placeFor (Open k) = k
+placeFor (Load k) = k
+placeFor (Finish k) = k
+placeFor (Delete k) = k
+placeFor (Clear k) = k
+placeFor (Show k) = k
+placeFor Enumerate = 0
+placeFor (Query k) = k
+
+-- is the place of the rows that the questions found
+pub load-place : (c : Call) (k : ℕ) → decisionOf c ≡ Load k → cardPlace (cardIn (recordIn KL (fieldsIn (c .request)))) (c .registers) ≡ k
+load-place c k e = ap placeFor (granted-answer c (Load k) e refl .grants)
+
+pub pend-place : (c : Call) (k : ℕ) → decisionOf c ≡ Pend k → placeIn (c .slots) (sessionPlace (slotIn KC (fieldsIn (c .request))) (c .slots)) ≡ k
+pend-place c k e = ap placeFor (granted-answer c (Pend k) e refl .grants)
+
+pub open-place : (c : Call) (k : ℕ) → decisionOf c ≡ Open k → placeIn (c .slots) (slotPlace (slotIn KR (fieldsIn (c .request))) (c .slots)) ≡ k
+open-place c k e = ap placeFor (granted-answer c (Open k) e refl .grants)
+
+pub finish-place : (c : Call) (k : ℕ) → decisionOf c ≡ Finish k → placeIn (c .slots) (slotPlace (slotIn KF (fieldsIn (c .request))) (c .slots)) ≡ k
+finish-place c k e = ap placeFor (granted-answer c (Finish k) e refl .grants)
+
+pub delete-place : (c : Call) (k : ℕ) → decisionOf c ≡ Delete k → placeIn (c .slots) (slotPlace (slotIn KX (fieldsIn (c .request))) (c .slots)) ≡ k
+delete-place c k e = ap placeFor (granted-answer c (Delete k) e refl .grants)
+
+pub clear-place : (c : Call) (k : ℕ) → decisionOf c ≡ Clear k → registerIn (fieldsIn (c .request)) - 1 ≡ k
+clear-place c k e = ap placeFor (granted-answer c (Clear k) e refl .grants)
+
+pub show-place : (c : Call) (k : ℕ) → decisionOf c ≡ Show k → registerIn (fieldsIn (c .request)) - 1 ≡ k
+show-place c k e = ap placeFor (granted-answer c (Show k) e refl .grants)
+
+pub query-place : (c : Call) (k : ℕ) → decisionOf c ≡ Query k → placeIn (c .slots) (slotPlace (slotIn KQ (fieldsIn (c .request))) (c .slots)) ≡ k
+query-place c k e = ap placeFor (granted-answer c (Query k) e refl .grants)
+
+-- the response, over tables by value; SM?GL's list is in the sequence of the rows
+module _ (t : Tables) (x : Supplement) (q : List ℕ) (room : ℕ) where
+  abbrev k₀ : Call
+  k₀ = callIn t x q room
+
+  abbrev names : List (List ℕ)
+  names = slotNames (slotRows t)
+
+  abbrev said : Answer → List ℕ
+  said a = response a names
+
+  shown : (k : ℕ) → decisionOf k₀ ≡ Show k → getD (t .registers) k freeRegister ≡ registerNumbered (registerIn (fieldsIn q)) (registerRows t)
+  shown k e =
+      let w = show-place k₀ k e in
+      let h : k < length (registerRows t) = rw (← w) (filled-below (registerIn (fieldsIn q)) (registerRows t) (asked-of k₀ (Show k) e refl .filled)) in
+      rw w (getD-front (t .«register_count») (t .registers) k freeRegister h)
+
+  queried : (k : ℕ) → decisionOf k₀ ≡ Query k → getD (t .slots) k freeSlot ≡ slotNamed (slotIn KQ (fieldsIn q)) (slotRows t)
+  unfolding slotNamed
+  queried k e =
+      let w = query-place k₀ k e in
+      let h : k < length (slotRows t) = rw (← w) (slot-below (slotIn KQ (fieldsIn q)) (slotRows t) (asked-of k₀ (Query k) e refl .known)) in
+      rw w (getD-front (t .«slot_count») (t .slots) k freeSlot h)
+
+  pub response-is : (d : Decision) → decisionOf k₀ ≡ d → responseFor d t x q ≡ response (answerOf k₀) names
+  unfolding refused answered listed recordIn slotIn
+  response-is (Refuse r) e = rw (refused-answer k₀ r e) refl
+  response-is Reset e = ap said (effect-of k₀ Reset e refl)
+  response-is (Pend k) e = ap said (effect-of k₀ (Pend k) e refl)
+  response-is (Open k) e = ap said (effect-of k₀ (Open k) e refl)
+  response-is (Load k) e = rw (load-place k₀ k e) at (ap said (effect-of k₀ (Load k) e refl))
+  response-is (Finish k) e = ap said (effect-of k₀ (Finish k) e refl)
+  response-is (Delete k) e = ap said (effect-of k₀ (Delete k) e refl)
+  response-is (Clear k) e = ap said (effect-of k₀ (Clear k) e refl)
+  response-is (Show k) e = ap (λ (r : RegisterRow). responseBytes (headerOf q) accepted (string (storedIn r) ∷ [])) (shown k e) ∙ ap said (effect-of k₀ (Show k) e refl)
+  response-is Enumerate e = ap said (effect-of k₀ Enumerate e refl)
+  response-is (Query k) e = ap (λ (r : SlotRow). responseBytes (headerOf q) accepted (queryFields r (registerRows t))) (queried k e) ∙ ap said (effect-of k₀ (Query k) e refl)

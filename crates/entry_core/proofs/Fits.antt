@@ -1,0 +1,243 @@
+-- What a decision says of its places, its strings and the room is enough to write its response and to change the rows.
+use mathlib.Core.Path.{_≡_, refl, sym, ap, _∙_}
+use mathlib.Core.Bool.{true, false, not}
+use mathlib.Core.List.{List, [], _∷_, map}
+use mathlib.Core.Option.{Option, none, some}
+use Prim.Native.Nat.{ℕ, _+_, _≤_, _<_}
+use native.Mathlib.Omega.{arith}
+use lib.Dec.{leb}
+use lib.ListN.{length, getD, take}
+use borrow.Author.Tests.{leb-true}
+use Rattle.byte_strings.proofs.Flags.{nope, and-first, and-second}
+use Rattle.byte_strings.proofs.StringLaws.{same-equal}
+use Rattle.text_timestamps.specs.Timestamps.{isTimestamp}
+use Rattle.text_classes.proofs.Identify.{name-short}
+use Rattle.field_values.specs.Values.{Value}
+use Rattle.text_forms.specs.Forms.{inForm}
+use Rattle.text_forms.specs.declared.Form.the-variants.{Name}
+use Rattle.message_frames.specs.Frames.{isWhole}
+use Rattle.record_parser.specs.Records.{field}
+use Rattle.record_identities.specs.Identities.{colon, identityInForm}
+use Rattle.record_types.specs.KeyRecords.{bar, publicKeyInForm, responseInForm}
+use Rattle.message_commands.specs.declared.Command.{Command}
+use Rattle.message_commands.specs.declared.Command.the-variants.{RS, KC, KR, KL, KF, KX, KD, GA, GL, KQ}
+use Rattle.decide_payloads.proofs.PayloadLaws.{text-fields}
+use Rattle.row_types.specs.Supplements.{isWellFormed, isIdentityRight, isLoadRequestRight}
+use Rattle.row_types.specs.Lists.{everyRow}
+use Rattle.row_types.specs.Slots.{hasState, kmcidOf, isNamed, isSlotSound, freeSlot}
+use Rattle.row_types.specs.Sound.{areSound}
+use Rattle.row_types.specs.Index.{keptName}
+use Rattle.row_types.specs.Places.{slotRows, registerRows}
+use Rattle.row_types.specs.declared.SlotRow.{SlotRow}
+use Rattle.row_types.specs.declared.SlotState.the-variants.{Free}
+use Rattle.row_types.proofs.ListLaws.{found}
+use Rattle.row_index.specs.Found.{ownerNumber, AreOwnedBy}
+use Rattle.row_index.specs.Lent.{tablesWith}
+use Rattle.card_writer.specs.declared.Stored.{Stored}
+use Rattle.row_index.proofs.LentLaws.{take-short}
+use Rattle.row_index.proofs.OwnerLaws.{owned-by-number}
+use Rattle.row_types.specs.declared.Supplement.{Supplement}
+use Rattle.row_types.specs.declared.Tables.{Tables}
+use Rattle.engine.specs.Refusals.{Header, general, own, refusal}
+use Rattle.engine.specs.Requests.{fieldsIn, registerIn, recordIn, slotIn, cardIn, firstText}
+use Rattle.engine.specs.Questions.{Call, areCounts, slotPlace, placeIn, isPlace}
+use Rattle.engine.specs.Calls.{callIn}
+use Rattle.engine.specs.Decisions.{decisionOf}
+use Rattle.engine.specs.declared.Refusal.{Refusal}
+use Rattle.engine.specs.declared.Decision.{Decision}
+use Rattle.engine.specs.declared.Decision.the-variants.{Refuse, Reset, Pend, Open, Load, Finish, Delete, Clear, Show, Enumerate, Query}
+use Rattle.engine.proofs.DecisionLaws.{refused-first}
+use Rattle.engine.proofs.RefusalLaws.{isUnwritten, isOwn, Group, of-tables, of-message, of-later, refusal-group, tables-unwritten, message-general}
+use Rattle.engine.proofs.Steps.{is-short}
+use Rattle.response_refusals.specs.RefusalForms.{CanRefuse}
+use Rattle.response_refusals.proofs.RefusalLaws.{can-tell}
+use Rattle.response_parts.specs.Parts.{cardOf}
+use Rattle.response_sessions.specs.Room.{HasRoom}
+use Rattle.response_requests.specs.Responding.{CanRespond}
+use Rattle.entry_changes.specs.Changes.{registersAfter, CanChangeSlots, CanChangeRegisters, HasStored}
+use Rattle.engine.proofs.Places.{filled-below}
+use Rattle.decide_counts.proofs.CountLaws.{slots-few, registers-few}
+use Rattle.entry_core.specs.Owners.{AreOwners}
+use Rattle.entry_core.proofs.Front.{getD-front}
+use Rattle.entry_core.proofs.DoneBy.{load-place, pend-place, open-place, finish-place, delete-place, clear-place, show-place, query-place}
+use Rattle.entry_core.proofs.Asked.{Asked, asked-of, slot-below, session-below, card-below}
+
+-- a request that is whole has ten bytes at least
+whole-ten : (q : List ℕ) → isWhole q ≡ true → 10 ≤ length q
+unfolding isWhole
+whole-ten q e = leb-true 10 (length q) (and-first (leb 10 (length q)) _ e)
+
+-- the KMCID of an identity in form has 40 bytes at most
+identity-short : (s : List ℕ) → identityInForm s ≡ true → length (field colon 2 s) ≤ 40
+unfolding identityInForm
+identity-short s e = name-short (field colon 2 s) (and-first (inForm Name (field colon 2 s)) _ (and-second (inForm Name (field colon 1 s)) _ e))
+
+public-short : (r : List ℕ) → publicKeyInForm r ≡ true → length (field colon 2 (field bar 1 r)) ≤ 40
+unfolding publicKeyInForm
+public-short r e = identity-short (field bar 1 r) (and-first (identityInForm (field bar 1 r)) _ e)
+
+response-short : (r : List ℕ) → responseInForm r ≡ true → length (field colon 2 (field bar 1 r)) ≤ 40
+unfolding responseInForm
+response-short r e = identity-short (field bar 1 r) (and-first (identityInForm (field bar 1 r)) _ e)
+
+request-short : (x : Supplement) → isWellFormed x ≡ true → x .«request_length» ≤ 700
+unfolding isWellFormed isLoadRequestRight
+request-short x e =
+    let l : isLoadRequestRight x ≡ true = and-first (isLoadRequestRight x) _ (and-second (isIdentityRight x) _ (and-second (isTimestamp (x .clock)) _ e)) in
+    leb-true (x .«request_length») 700 (and-first (leb (x .«request_length») 700) _ (and-second (leb 1 (x .«request_length»)) _ l))
+
+-- a refusal is told where there is room
+unwritten-tells : (h : Option Header) (n m : ℕ) → isUnwritten h ≡ true → CanRefuse h n m
+unwritten-tells none n m e = tt
+unwritten-tells (some h) n m e = nope (cc)
+
+general-tells : (h : Option Header) (n m : ℕ) → isOwn h ≡ false → 1024 ≤ m → CanRefuse h n m
+general-tells none n m e r = tt
+general-tells (some general) n m e r = r
+general-tells (some own) n m e r = nope (cc)
+
+module _ (c : Call) where
+  tells : (r : Refusal) → decisionOf c ≡ Refuse r → CanRefuse (refusal r .header) (length (c .request)) (c .room)
+  tells r e = go (refusal-group c r (refused-first c r e))
+    where
+      go : Group c r → CanRefuse (refusal r .header) (length (c .request)) (c .room)
+      go (of-tables w) = unwritten-tells (refusal r .header) (length (c .request)) (c .room) (tables-unwritten c r w)
+      go (of-message t w) = general-tells (refusal r .header) (length (c .request)) (c .room) (message-general c r w) (leb-true 1024 (c .room) (t .1 .0))
+      go (of-later t y w) = can-tell (refusal r .header) (length (c .request)) (c .room) (whole-ten (c .request) (y .0)) (leb-true 1024 (c .room) (t .1 .0))
+
+  module _ (k : Command) (y : Asked c k) where
+    has-room : HasRoom (length (c .request)) (c .room)
+    has-room = (whole-ten (c .request) (y .whole), leb-true 1024 (c .room) (y .room))
+
+  loaded-short : (k : ℕ) → decisionOf c ≡ Load k → length (cardOf (c .supplement) (fieldsIn (c .request))) ≤ 256
+  unfolding recordIn slotIn
+  loaded-short k e = is-short c (fieldsIn (c .request)) (asked-of c (Load k) e refl)
+
+-- a slot that was found, and the KMCID that its row keeps
+found-at : (s : List ℕ) (l : List SlotRow) (k : ℕ) → isPlace (slotPlace s l) ≡ true → placeIn l (slotPlace s l) ≡ k → slotPlace s l ≡ some k
+found-at s l k e p = go (slotPlace s l) refl e p
+  where
+    go : (o : Option ℕ) → slotPlace s l ≡ o → isPlace o ≡ true → placeIn l o ≡ k → slotPlace s l ≡ some k
+    go (some j) w a b = w ∙ ap (λ (n : ℕ). some n) b
+    go none w a b = nope (cc)
+
+kept-at : (s : List ℕ) (n : ℕ) (l : List SlotRow) (k : ℕ) → slotPlace s (take n l) ≡ some k → kmcidOf (getD l k freeSlot) ≡ s
+unfolding isNamed
+kept-at s n l k p =
+    let f = found (isNamed s) freeSlot (take n l) k p in
+    rw (getD-front n l k freeSlot (f .0)) (same-equal (kmcidOf (getD (take n l) k freeSlot)) s (and-second (not (hasState Free (getD (take n l) k freeSlot))) _ (f .1)))
+
+-- the places of a call over tables by value
+module _ (t : Tables) (x : Supplement) (q : List ℕ) (room : ℕ) (owners : List ℕ)
+    (owned : areCounts (t .«slot_count») (t .«register_count») ≡ true → AreOwners owners (slotRows t) (registerRows t) (t .«register_count»)) where
+  abbrev k₀ : Call
+  k₀ = callIn t x q room
+
+  abbrev vs : List Value
+  vs = fieldsIn q
+
+  -- a place among the rows is one of the places
+  slot-place : (o : Command) → Asked k₀ o → (k i : ℕ) → i ≡ k → i < length (take (t .«slot_count») (t .slots)) → k < 8
+  slot-place o y k i e h =
+      let a = slots-few (t .«slot_count») (t .«register_count») (y .counts) in
+      let b = take-short (t .«slot_count») (t .slots) in
+      omega arith
+
+  register-place : (o : Command) → Asked k₀ o → (k i : ℕ) → i ≡ k → i < length (take (t .«register_count») (t .registers)) → k < 32
+  register-place o y k i e h =
+      let a = registers-few (t .«slot_count») (t .«register_count») (y .counts) in
+      let b = take-short (t .«register_count») (t .registers) in
+      omega arith
+
+  load-low : (k : ℕ) → decisionOf k₀ ≡ Load k → k < 32
+  load-low k e =
+      let y = asked-of k₀ (Load k) e refl in
+      register-place KL y k _ (load-place k₀ k e) (card-below (cardIn (recordIn KL vs)) (k₀ .registers) (y .home))
+
+  delete-low : (k : ℕ) → decisionOf k₀ ≡ Delete k → k < 8
+  delete-low k e =
+      let y = asked-of k₀ (Delete k) e refl in
+      slot-place KX y k _ (delete-place k₀ k e) (slot-below (slotIn KX vs) (k₀ .slots) (y .known))
+
+  -- the owners write_refusal the registers under a slot that was found
+  owned-at : (o : Command) → Asked k₀ o → (s : List ℕ) (k : ℕ) → slotPlace s (slotRows t) ≡ some k → AreOwnedBy (k + 1) s (take (t .«register_count») owners) (registerRows t)
+  unfolding areSound
+  owned-at o y s k p =
+      let e : take (t .«register_count») owners ≡ map (ownerNumber (map keptName (slotRows t))) (registerRows t) = owned (y .counts) (y .sound) in
+      rw e (owned-by-number (slotRows t) (and-first (everyRow isSlotSound (slotRows t)) _ (y .sound)) s k p (registerRows t))
+
+  deleted-at : (k : ℕ) → decisionOf k₀ ≡ Delete k → slotPlace (slotIn KX vs) (slotRows t) ≡ some k
+  deleted-at k e = found-at (slotIn KX vs) (slotRows t) k (asked-of k₀ (Delete k) e refl .known) (delete-place k₀ k e)
+
+  queried-at : (k : ℕ) → decisionOf k₀ ≡ Query k → slotPlace (slotIn KQ vs) (slotRows t) ≡ some k
+  queried-at k e = found-at (slotIn KQ vs) (slotRows t) k (asked-of k₀ (Query k) e refl .known) (query-place k₀ k e)
+
+  -- the response is written over the register rows after the decision; the three commands that look at them change none
+  abbrev after : Decision → Tables
+  after d = tablesWith (t .slots) (t .«slot_count») (registersAfter d (t .«register_count») (t .registers) x vs) (t .«register_count»)
+
+  pub can-respond : (d : Decision) → decisionOf k₀ ≡ d → (c : Stored) → HasStored d c x vs → CanRespond d (after d) owners c x q room
+  unfolding recordIn
+  can-respond (Refuse r) e c w = tells k₀ r e
+  can-respond Reset e c w = has-room k₀ RS (asked-of k₀ Reset e refl)
+  can-respond (Pend k) e c w =
+      let y = asked-of k₀ (Pend k) e refl in
+      (has-room k₀ KC y, (sym (text-fields KC vs refl) ∙ y .fields, (public-short (firstText vs) (and-first (publicKeyInForm (firstText vs)) true (y .form)), request-short x (y .supplement))))
+  can-respond (Open k) e c w =
+      let y = asked-of k₀ (Open k) e refl in
+      (has-room k₀ KR y, (sym (text-fields KR vs refl) ∙ y .fields, response-short (firstText vs) (and-first (responseInForm (firstText vs)) true (y .form))))
+  can-respond (Load k) e c w =
+      let y = asked-of k₀ (Load k) e refl in
+      (has-room k₀ KL y, (w k refl .0, (w k refl .1, load-low k e)))
+  can-respond (Finish k) e c w = has-room k₀ KF (asked-of k₀ (Finish k) e refl)
+  can-respond (Delete k) e c w = has-room k₀ KX (asked-of k₀ (Delete k) e refl)
+  can-respond (Clear k) e c w = has-room k₀ KD (asked-of k₀ (Clear k) e refl)
+  can-respond (Show k) e c w =
+      let y = asked-of k₀ (Show k) e refl in
+      (has-room k₀ GA y, register-place GA y k _ (show-place k₀ k e) (filled-below (registerIn vs) (k₀ .registers) (y .filled)))
+  can-respond Enumerate e c w =
+      let y = asked-of k₀ Enumerate e refl in
+      (has-room k₀ GL y, slots-few (t .«slot_count») (t .«register_count») (y .counts))
+  can-respond (Query k) e c w =
+      let y = asked-of k₀ (Query k) e refl in
+      let p = queried-at k e in
+      (has-room k₀ KQ y, (slot-place KQ y k _ (query-place k₀ k e) (slot-below (slotIn KQ vs) (k₀ .slots) (y .known)), (registers-few (t .«slot_count») (t .«register_count») (y .counts), rw (kept-at (slotIn KQ vs) (t .«slot_count») (t .slots) k p) (owned-at KQ y (slotIn KQ vs) k p))))
+
+  pub can-slots : (d : Decision) → decisionOf k₀ ≡ d → CanChangeSlots d (t .«slot_count») vs
+  can-slots (Refuse r) e = tt
+  can-slots Reset e = slots-few (t .«slot_count») (t .«register_count») (asked-of k₀ Reset e refl .counts)
+  can-slots (Pend k) e =
+      let y = asked-of k₀ (Pend k) e refl in
+      (slot-place KC y k _ (pend-place k₀ k e) (session-below (slotIn KC vs) (k₀ .slots) (y .spot)), sym (text-fields KC vs refl) ∙ y .fields)
+  can-slots (Open k) e =
+      let y = asked-of k₀ (Open k) e refl in
+      slot-place KR y k _ (open-place k₀ k e) (slot-below (slotIn KR vs) (k₀ .slots) (y .known))
+  can-slots (Load k) e = tt
+  can-slots (Finish k) e =
+      let y = asked-of k₀ (Finish k) e refl in
+      slot-place KF y k _ (finish-place k₀ k e) (slot-below (slotIn KF vs) (k₀ .slots) (y .known))
+  can-slots (Delete k) e = delete-low k e
+  can-slots (Clear k) e = tt
+  can-slots (Show k) e = tt
+  can-slots Enumerate e = tt
+  can-slots (Query k) e = tt
+
+  pub can-registers : (d : Decision) → decisionOf k₀ ≡ d → CanChangeRegisters d (t .«register_count») owners (t .registers) x vs
+  unfolding slotIn
+  can-registers (Refuse r) e = tt
+  can-registers Reset e = tt
+  can-registers (Pend k) e = tt
+  can-registers (Open k) e = tt
+  can-registers (Load k) e =
+      let y = asked-of k₀ (Load k) e refl in
+      (load-low k e, (y .fields, loaded-short k₀ k e))
+  can-registers (Finish k) e = tt
+  can-registers (Delete k) e =
+      let y = asked-of k₀ (Delete k) e refl in
+      (delete-low k e, (registers-few (t .«slot_count») (t .«register_count») (y .counts), owned-at KX y (slotIn KX vs) k (deleted-at k e)))
+  can-registers (Clear k) e =
+      let y = asked-of k₀ (Clear k) e refl in
+      register-place KD y k _ (clear-place k₀ k e) (filled-below (registerIn vs) (k₀ .registers) (y .filled))
+  can-registers (Show k) e = tt
+  can-registers Enumerate e = tt
+  can-registers (Query k) e = tt

@@ -1,0 +1,95 @@
+-- From the decision on a call to its answer, as the code puts it together: d is the decision, p the payload.
+use mathlib.Core.Path.{_≡_, refl, sym, ap, subst, _∙_}
+use mathlib.Core.Bool.{true}
+use mathlib.Core.List.{List, Perm·refl, map}
+use Prim.Native.Nat.{ℕ, _≤_}
+use lib.ListN.{length, take}
+use native.Mathlib.Omega.{arith}
+use Rattle.byte_strings.specs.Wrote.{Wrote}
+use Rattle.byte_strings.proofs.Writes.{from-start}
+use Rattle.field_values.specs.Values.{Value, valuesOf}
+use Rattle.message_frames.specs.Frames.{payloadOf}
+use Rattle.row_types.specs.Places.{slotRows}
+use Rattle.row_types.specs.RowReplies.{slotNames}
+use Rattle.row_types.specs.declared.Supplement.{Supplement}
+use Rattle.row_types.specs.declared.Tables.{Tables}
+use Rattle.row_types.specs.declared.SlotRow.{SlotRow}
+use Rattle.row_types.specs.declared.RegisterRow.{RegisterRow}
+use Rattle.card_writer.specs.declared.Stored.{Stored}
+use Rattle.row_index.specs.Lent.{cardIn, rowsWith, tablesWith, tablesWithCards}
+use Rattle.row_index.proofs.LentLaws.{tables-again}
+use Rattle.engine.specs.Questions.{areCounts}
+use Rattle.engine.specs.Answers.{response, answerOf}
+use Rattle.engine.specs.Calls.{callIn, Responded, tablesAfter}
+use Rattle.engine.specs.Decisions.{decisionOf}
+use Rattle.engine.specs.declared.Decision.{Decision}
+use Rattle.engine.specs.declared.Decision.the-variants.{Refuse, Reset, Pend, Open, Load, Finish, Delete, Clear, Show, Enumerate, Query}
+use Rattle.engine.specs.declared.Outcome.{Outcome}
+use Rattle.response_requests.specs.Responding.{outcomeFor, responseFor, CanRespond}
+use Rattle.entry_changes.specs.Changes.{slotsAfter, registersAfter, CanChangeSlots, CanChangeRegisters, HasStored}
+use Rattle.entry_core.specs.Owners.{AreOwners}
+use Rattle.entry_core.proofs.DoneBy.{outcome-is, response-is}
+use Rattle.entry_core.proofs.RowsAfter.{tables-are}
+use Rattle.entry_core.proofs.Fits.{can-respond, can-slots, can-registers}
+
+-- the commands whose response looks at the register rows change none
+same-response : (d : Decision) (slots : List SlotRow) (n : ℕ) (R : List RegisterRow) (m : ℕ) (x : Supplement) (vs : List Value) (q : List ℕ)
+    → responseFor d (tablesWith slots n (registersAfter d m R x vs) m) x q ≡ responseFor d (tablesWith slots n R m) x q
+same-response (Refuse r) slots n R m x vs q = refl
+same-response Reset slots n R m x vs q = refl
+same-response (Pend k) slots n R m x vs q = refl
+same-response (Open k) slots n R m x vs q = refl
+same-response (Load k) slots n R m x vs q = refl
+same-response (Finish k) slots n R m x vs q = refl
+same-response (Delete k) slots n R m x vs q = refl
+same-response (Clear k) slots n R m x vs q = refl
+same-response (Show k) slots n R m x vs q = refl
+same-response Enumerate slots n R m x vs q = refl
+same-response (Query k) slots n R m x vs q = refl
+
+-- handle_cards: R are the rows with the lent cards, owners the numbers of their owners
+module _ (slots : List SlotRow) (n : ℕ) (R : List RegisterRow) (m : ℕ) (x : Supplement) (q : List ℕ) (room : ℕ) (d : Decision) (e : d ≡ decisionOf (callIn (tablesWith slots n R m) x q room)) where
+  abbrev t : Tables
+  t = tablesWith slots n R m
+
+  module _ (owners : List ℕ) (owned : areCounts n m ≡ true → AreOwners owners (take n slots) (take m R) m) where
+    pub responds : (p : List ℕ) → p ≡ payloadOf q → (c : Stored) → HasStored d c x (valuesOf p) → (l : List RegisterRow) → l ≡ registersAfter d m R x (valuesOf p) → CanRespond d (tablesWith slots n l m) owners c x q room
+    responds p w c h l y = rw (y, w) (can-respond t x q room owners owned d (sym e) c (rw w at h))
+
+    pub slots-can : (p : List ℕ) → p ≡ payloadOf q → CanChangeSlots d n (valuesOf p)
+    slots-can p w = rw w (can-slots t x q room owners owned d (sym e))
+
+    pub registers-can : (p : List ℕ) → p ≡ payloadOf q → CanChangeRegisters d m owners R x (valuesOf p)
+    registers-can p w = rw w (can-registers t x q room owners owned d (sym e))
+
+  pub outcome-right : (o : Outcome) → o ≡ outcomeFor d → o ≡ answerOf (callIn t x q room) .outcome
+  outcome-right o w = w ∙ outcome-is (callIn t x q room) d (sym e)
+
+  pub rows-right : (p : List ℕ) → p ≡ payloadOf q → (u : List SlotRow) → u ≡ slotsAfter d n slots x (valuesOf p) → (l : List RegisterRow) → l ≡ registersAfter d m R x (valuesOf p)
+      → tablesWith u n l m ≡ tablesAfter t (answerOf (callIn t x q room))
+  rows-right p w u v l y = rw (v, y, w) (tables-are t x q room d (sym e))
+
+  -- the code lists the slots in the sequence of their rows
+  pub responded : (p : List ℕ) → p ≡ payloadOf q → (l : List RegisterRow) → l ≡ registersAfter d m R x (valuesOf p) → (a b : List ℕ) (k : ℕ) → Wrote a 0 (responseFor d (tablesWith slots n l m) x q) b k → k ≤ length a
+      → Responded t (answerOf (callIn t x q room)) a k b
+  responded p i l y a b k w h =
+      let e′ : responseFor d (tablesWith slots n l m) x q ≡ response (answerOf (callIn t x q room)) (slotNames (slotRows t)) = rw y (same-response d slots n R m x (valuesOf p) q) ∙ response-is t x q room d (sym e) in
+      (slotNames (slotRows t), (Perm·refl (slotNames (slotRows t)), (omega (arith, w .next) ∙ ap length e′, rw e′ at (from-start w (omega (arith, w .next))))))
+
+-- handle: the tables with the cards of their rows are the tables
+module _ (t : Tables) (cards : List (List ℕ)) (w : cards ≡ map cardIn (t .registers)) (x : Supplement) (q : List ℕ) (room : ℕ) where
+  abbrev lent : Tables
+  lent = tablesWithCards (t .slots) (t .«slot_count») cards (t .«register_count»)
+
+  same-tables : lent ≡ t
+  same-tables = tables-again (t .slots) (t .«slot_count») (t .registers) (t .«register_count») cards w
+
+  pub outcome-lent : (o : Outcome) → o ≡ answerOf (callIn lent x q room) .outcome → o ≡ answerOf (callIn t x q room) .outcome
+  outcome-lent o v = v ∙ ap (λ (u : Tables). answerOf (callIn u x q room) .outcome) same-tables
+
+  pub responded-lent : (a b : List ℕ) (k : ℕ) → Responded lent (answerOf (callIn lent x q room)) a k b → Responded t (answerOf (callIn t x q room)) a k b
+  responded-lent a b k v = subst (λ (u : Tables). Responded u (answerOf (callIn u x q room)) a k b) same-tables v
+
+  pub rows-after : (s : List SlotRow) (c : List (List ℕ)) → tablesWithCards s (t .«slot_count») c (t .«register_count») ≡ tablesAfter lent (answerOf (callIn lent x q room))
+      → (l : List RegisterRow) → l ≡ rowsWith c → tablesWith s (t .«slot_count») l (t .«register_count») ≡ tablesAfter t (answerOf (callIn t x q room))
+  rows-after s c v l y = rw y (v ∙ ap (λ (u : Tables). tablesAfter u (answerOf (callIn u x q room))) same-tables)

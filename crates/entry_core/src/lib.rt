@@ -1,0 +1,138 @@
+// The engine over tables by value: a request, the tables, a response buffer and a supplement give an accepted answer or
+// a refusal (document 01). The cards of the register rows are lent inside: question 3 reads each once, and what it
+// finds serves the decision, the response and the change of the rows.
+use engine::Outcome;
+use register_keys::Findings;
+use row_types::SlotRow;
+use row_types::Supplement;
+use row_types::Tables;
+ghost use mathlib.Core.Path.{_≡_};
+ghost use mathlib.Core.Bool.{true};
+ghost use lib.ListN.{length, take};
+ghost use Rattle.row_index.specs.Lent.{rowsWith, tablesWithCards};
+ghost use Rattle.engine.specs.Questions.{areCounts};
+ghost use Rattle.engine.specs.Calls.{IsAnswered};
+ghost use Rattle.decide_requests.specs.Found.{IsFound};
+ghost use Rattle.entry_core.specs.Owners.{AreOwners};
+
+// What question 3 answers, and finds where the counts are in range.
+fn find(
+    slots: [SlotRow; 8],
+    slot_count: usize,
+    cards: &[[u8; 256]],
+    register_count: usize,
+) -> Findings
+    requires { ⌜ length (now cards) ≡ 32 ⌝ }
+    ensures { λ f. ⌜ (areCounts «slot_count» «register_count» ≡ true
+        → IsFound (f .sound) (f .keys) (take «slot_count» slots)
+        (take «register_count» (rowsWith (now (cards .entry)))) «register_count») ⌝ }
+    ensures owners { λ f. ⌜ (areCounts «slot_count» «register_count» ≡ true
+        → AreOwners (f .owners) (take «slot_count» slots)
+        (take «register_count» (rowsWith (now (cards .entry)))) «register_count») ⌝ }
+{
+    if !decide_counts::are_counts(slot_count, register_count) {
+        return row_soundness::unsound();
+    }
+    row_soundness::find(slots, slot_count, &cards[..register_count])
+}
+
+// How a request ended, how long its response is, and the slot rows after it.
+pub struct Handled {
+    pub outcome: Outcome,
+    pub length: usize,
+    pub slots: [SlotRow; 8],
+}
+
+// Handles a request over slot rows and lent cards, which are changed in place; the first slot_count and register_count
+// of them are the caller's.
+pub fn handle_cards(
+    slots: [SlotRow; 8],
+    slot_count: usize,
+    cards: &mut [[u8; 256]],
+    register_count: usize,
+    supplement: Supplement,
+    request: &[u8],
+    response: &mut [u8],
+) -> Handled
+    requires { ⌜ length (now cards) ≡ 32 ⌝ }
+    ensures { λ a. ⌜ IsAnswered (tablesWithCards slots «slot_count» (now (cards .entry)) «register_count»)
+        supplement request response (a .outcome) (a .length)
+        (tablesWithCards (a .slots) «slot_count» (now (cards .exit)) «register_count») ⌝ }
+{
+    let f = find(slots, slot_count, cards, register_count);
+    let keys = f.keys;
+    let owners = f.owners;
+    let d = decide_requests::decide(
+        slots,
+        slot_count,
+        register_count,
+        f.sound,
+        keys,
+        supplement,
+        request,
+        response.len(),
+    );
+    let outcome = response_requests::outcome(d);
+    let p = message_frames::payload(request);
+    let after = entry_changes::change_slots(d, slots, slot_count, supplement, p);
+    let stored = entry_changes::change_registers(d, cards, register_count, owners, supplement, p);
+    let length = response_requests::respond(
+        d,
+        slots,
+        slot_count,
+        cards,
+        register_count,
+        owners,
+        stored,
+        supplement,
+        request,
+        response,
+    );
+    Handled {
+        outcome,
+        length,
+        slots: after,
+    }
+}
+
+// How a request ended, how long its response is, and the tables after it.
+pub struct Answer {
+    pub outcome: Outcome,
+    pub length: usize,
+    pub tables: Tables,
+}
+
+// Handles a request. Every input is answered; the first `length` bytes of the buffer are the response, and those beyond
+// keep their value.
+pub fn handle(tables: Tables, supplement: Supplement, request: &[u8], response: &mut [u8]) -> Answer
+    ensures { λ a. ⌜ IsAnswered tables supplement request response (a .outcome) (a .length) (a .tables) ⌝ }
+{
+    let slots = tables.slots;
+    let registers = tables.registers;
+    let slot_count = tables.slot_count;
+    let register_count = tables.register_count;
+    let mut cards = register_tables::cards_of(registers);
+    let a = handle_cards(
+        slots,
+        slot_count,
+        &mut cards,
+        register_count,
+        supplement,
+        request,
+        response,
+    );
+    let outcome = a.outcome;
+    let slots_after = a.slots;
+    let registers_after = register_tables::rows_of(cards);
+    let after = Tables {
+        slots: slots_after,
+        registers: registers_after,
+        slot_count: slot_count,
+        register_count: register_count,
+    };
+    Answer {
+        outcome,
+        length: a.length,
+        tables: after,
+    }
+}

@@ -1,0 +1,18 @@
+-- `entry_numbers::answer` meets its contract: the core's answer, in numbers and in two tables.
+use Rattle.entry_numbers.proofs.AnswerLaws.{number-of, byte-of, responded-of, slots-of, registers-of}
+use borrow.Author.Needs.{needs}
+use Rattle.entry_numbers.proofs.answer.Statement.{statement}
+use Rattle.entry_numbers.proofs.answer.Tie as tie
+
+pub answer-spec : {M : Type 1} → statement M
+answer-spec =
+    tie.close
+    (tie.spec
+    (λ c κs. search needs)
+    (λ c. search needs)
+    (λ c κs. search needs)
+    (λ c κs. search needs)
+    (λ c κs. search needs)
+    (λ c κs. search needs)
+    (λ c. search needs)
+    (λ c. (search number-of, (search byte-of, (search responded-of, (search slots-of, (search registers-of, search needs)))))))

@@ -1,0 +1,56 @@
+// Which key may vend (document 01, "Slots and registers": "a register's key may vend exactly when its slot is IDLE").
+use row_types::SlotRow;
+use row_types::SlotState;
+use row_types::Tables;
+ghost use mathlib.Core.Path.{_≡_};
+ghost use Prim.Native.Nat.{_-_, _≤_};
+ghost use lib.ListN.{getD};
+ghost use Rattle.row_types.specs.Slots.{hasState, freeSlot};
+ghost use Rattle.row_types.specs.declared.SlotState.the-variants.{Idle};
+ghost use Rattle.engine.specs.Usable.{isUsable};
+
+// The number of a register's owner; 0 of a free register.
+fn owner_of(owners: [usize; 32], register: usize) -> usize
+    requires { ⌜ (1 ≤ register) × (register ≤ 32) ⌝ }
+    ensures { λ k. ⌜ k ≡ getD owners (register - 1) 0 ⌝ }
+{
+    owners[register - 1]
+}
+
+// Whether the slot with a number, counted from 1, is IDLE.
+fn is_idle(slots: [SlotRow; 8], number: usize) -> bool
+    requires { ⌜ (1 ≤ number) × (number ≤ 8) ⌝ }
+    ensures { λ b. ⌜ b ≡ hasState Idle (getD slots (number - 1) freeSlot) ⌝ }
+{
+    slot_tests::has_state(slots[number - 1], SlotState::Idle)
+}
+
+// Whether the key in a register, counted from 1, may vend.
+pub fn is_usable(tables: Tables, register: usize) -> bool
+    ensures { λ b. ⌜ b ≡ isUsable tables register ⌝ }
+{
+    let n = tables.slot_count;
+    let m = tables.register_count;
+    if !decide_counts::are_counts(n, m) {
+        return false;
+    }
+    let slots = tables.slots;
+    let registers = tables.registers;
+    let cards = register_tables::cards_of(registers);
+    let f = row_soundness::find(slots, n, &cards[..m]);
+    if !f.sound {
+        return false;
+    }
+    if register < 1 {
+        return false;
+    }
+    if m < register {
+        return false;
+    }
+    let owners = f.owners;
+    let owner = owner_of(owners, register);
+    if owner == 0 {
+        return false;
+    }
+    is_idle(slots, owner)
+}

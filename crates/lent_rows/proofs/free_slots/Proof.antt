@@ -1,8 +1,0 @@
--- `lent_rows::free_slots` meets its contract.
-use borrow.Author.Needs.{needs}
-use Rattle.lent_rows.proofs.FreeLaws.{slots-free}
-use Rattle.lent_rows.proofs.free_slots.Statement.{statement}
-use Rattle.lent_rows.proofs.free_slots.Tie as tie
-
-pub free-slots-spec : {M : Type 1} → statement M
-free-slots-spec = tie.close (tie.spec (λ c κs. search needs) (λ c. search slots-free))

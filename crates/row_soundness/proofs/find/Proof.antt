@@ -1,0 +1,30 @@
+-- `row_soundness::find` meets its contract, a law a return.
+use Rattle.row_soundness.proofs.SoundLaws.{unsoundCases, all-sound, owners-named, filled-front, keys-front}
+use borrow.Author.Needs.{needs}
+use Rattle.row_soundness.proofs.find.Statement.{statement}
+use Rattle.row_soundness.proofs.find.Tie as tie
+
+pub find-spec : {M : Type 1} → statement M
+find-spec =
+    tie.close
+    (tie.spec
+    (λ c κs. search needs)
+    (λ c κs. search needs)
+    (λ c. (search unsoundCases, ((λ z. search needs), (λ z. search needs))))
+    (λ c κs. search needs)
+    (λ c. search needs)
+    (λ c. search (filled-front, needs))
+    (λ c κs. search needs)
+    (λ c κs. search needs)
+    (λ c. (search unsoundCases, ((λ z. search needs), (λ z. search needs))))
+    (λ c. search needs)
+    (λ c. search (filled-front, needs))
+    (λ c κs. search needs)
+    (λ c κs. search needs)
+    (λ c. (search unsoundCases, ((λ z. search needs), (λ z. search needs))))
+    (λ c. search needs)
+    (λ c. search keys-front)
+    (λ c κs. search needs)
+    (λ c κs. search needs)
+    (λ c. (search unsoundCases, ((λ z. search needs), (λ z. search needs))))
+    (λ c. (search all-sound, (search needs, search owners-named))))

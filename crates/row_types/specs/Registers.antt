@@ -1,0 +1,49 @@
+-- Register rows (document 01, Slots and registers): a stored card, or free.
+use Prim.Native.Nat.{ℕ}
+use mathlib.Core.Bool.{Bool, cond, not, _&&_, _||_}
+use mathlib.Core.List.{List, [], _∷_}
+use lib.ListN.{replicate}
+use Rattle.byte_strings.specs.Strings.{sameBytes}
+use Rattle.byte_strings.specs.Texts.{all}
+use Rattle.text_classes.specs.Classes.{areAll}
+use Rattle.text_classes.specs.declared.Class.the-variants.{Zero}
+use Rattle.card_attributes.specs.Table.{SGC, KRN, KSL}
+use Rattle.card_entries.specs.Entries.{valueOf, orElse}
+use Rattle.card_stored.specs.Stored.{isStored, inRow}
+use Rattle.row_types.specs.declared.RegisterRow.{RegisterRow}
+
+-- every byte of the row is zero
+unfoldable pub isVacant : RegisterRow → Bool
+isVacant r = areAll Zero (r .card)
+
+-- what a row's card has under a name
+unfoldable pub attributeOf : ℕ → RegisterRow → List ℕ
+attributeOf n r = orElse (valueOf n (r .card)) []
+
+-- the row holds a key of the supply group g and the revision k
+unfoldable pub isKeyOf : List ℕ → List ℕ → RegisterRow → Bool
+isKeyOf g k r = all (not (isVacant r) ∷ sameBytes (attributeOf SGC r) g ∷ sameBytes (attributeOf KRN r) k ∷ [])
+
+-- the row holds a key of the slot s
+unfoldable pub isUnder : List ℕ → RegisterRow → Bool
+isUnder s r = not (isVacant r) && sameBytes (attributeOf KSL r) s
+
+-- a register row that is sound by itself: free and zero, or a card as stored
+unfoldable pub isRegisterSound : RegisterRow → Bool
+isRegisterSound r = isVacant r || isStored (r .card)
+
+-- two rows that hold one key
+unfoldable pub isSameKey : RegisterRow → RegisterRow → Bool
+isSameKey a b = not (isVacant a) && isKeyOf (attributeOf SGC a) (attributeOf KRN a) b
+
+-- a freed row
+unfoldable pub freeRegister : RegisterRow
+freeRegister = record { card = replicate 256 0 }
+
+-- a row filled with a stored card
+unfoldable pub filledRegister : List ℕ → RegisterRow
+filledRegister card = record { card = inRow card }
+
+-- SM?KX: the row becomes free where it holds a key of the slot
+unfoldable pub withoutSlot : List ℕ → RegisterRow → RegisterRow
+withoutSlot s r = cond (isUnder s r) freeRegister r

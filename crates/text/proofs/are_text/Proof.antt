@@ -1,8 +1,0 @@
--- `text::are_text` meets its contract: the class is a range.
-use Rattle.text.proofs.Every.{within-text}
-use borrow.Author.Needs.{needs}
-use Rattle.text.proofs.are_text.Statement.{statement}
-use Rattle.text.proofs.are_text.Tie as tie
-
-pub are-text-spec : {M : Type 1} → statement M
-are-text-spec = tie.close (tie.spec (λ c κs. search needs) (λ c. search within-text))

@@ -1,0 +1,149 @@
+// Text: classes of bytes, and identifiers (document 01, "What the caller lends", "Records", "Cards"; 003 clause 5.1).
+ghost use mathlib.Core.Path.{_≡_};
+ghost use Rattle.byte_strings.specs.Strings.{allOf};
+ghost use Rattle.text_classes.specs.Classes.{within, isBetween, isAlphanumeric, isMark, isOf, areAll};
+ghost use Rattle.text_classes.specs.Identifiers.{isIdentifier};
+ghost use Rattle.text_classes.specs.declared.Class.the-variants.{Text, Printable, Zero};
+
+// The classes of bytes that the papers name.
+pub enum Class {
+    Digit,
+    Hexadecimal,
+    Capital,
+    Identifier,
+    Text,
+    Printable,
+    Value,
+    Zero,
+}
+
+fn within(b: u8, low: u8, high: u8) -> bool
+    ensures { λ r. ⌜ r ≡ within b low high ⌝ }
+{
+    low <= b && b <= high
+}
+
+fn is_alphanumeric(b: u8) -> bool
+    ensures { λ r. ⌜ r ≡ isAlphanumeric b ⌝ }
+{
+    if within(b, b'0', b'9') {
+        return true;
+    }
+    if within(b, b'A', b'Z') {
+        return true;
+    }
+    within(b, b'a', b'z')
+}
+
+fn is_mark(b: u8) -> bool
+    ensures { λ r. ⌜ r ≡ isMark b ⌝ }
+{
+    if b == b'_' {
+        return true;
+    }
+    within(b, b',', b'.')
+}
+
+// Whether a byte is of a class.
+pub fn is_of(class: Class, byte: u8) -> bool
+    ensures { λ r. ⌜ r ≡ isOf class byte ⌝ }
+{
+    match class {
+        Class::Digit => within(byte, b'0', b'9'),
+        Class::Hexadecimal => {
+            if within(byte, b'0', b'9') {
+                return true;
+            }
+            within(byte, b'A', b'F')
+        }
+        Class::Capital => within(byte, b'A', b'Z'),
+        Class::Identifier => {
+            if is_alphanumeric(byte) {
+                return true;
+            }
+            is_mark(byte)
+        }
+        Class::Text => within(byte, 0x20, 0x7D),
+        Class::Printable => within(byte, 0x20, 0x7E),
+        Class::Value => {
+            if byte == b';' {
+                return false;
+            }
+            if byte == b'|' {
+                return false;
+            }
+            within(byte, 0x20, 0x7D)
+        }
+        Class::Zero => byte == 0,
+    }
+}
+
+// Whether every byte is of a class.
+pub fn are_all(class: Class, bytes: &[u8]) -> bool
+    ensures { λ r. ⌜ r ≡ areAll class (now (bytes .entry)) ⌝ }
+{
+    let mut i = 0;
+    while i < bytes.len() {
+        if !is_of(class, bytes[i]) {
+            return false;
+        }
+        i += 1;
+    }
+    true
+}
+
+// Whether every byte is zero. No byte ends the loop, so that many are tested at a time.
+pub fn are_zeros(bytes: &[u8]) -> bool
+    ensures { λ r. ⌜ r ≡ areAll Zero (now (bytes .entry)) ⌝ }
+{
+    let mut clear = true;
+    let mut k = 0;
+    while k < bytes.len() {
+        clear = clear & (bytes[k] == 0);
+        k += 1;
+    }
+    clear
+}
+
+// Whether every byte is in a range, tested in the same way.
+fn are_within(s: &[u8], low: u8, high: u8) -> bool
+    ensures { λ r. ⌜ r ≡ allOf (isBetween low high) (now (s .entry)) ⌝ }
+{
+    let mut good = true;
+    let mut j = 0;
+    while j < s.len() {
+        good = good & within(s[j], low, high);
+        j += 1;
+    }
+    good
+}
+
+// Whether every byte is text.
+pub fn are_text(bytes: &[u8]) -> bool
+    ensures { λ r. ⌜ r ≡ areAll Text (now (bytes .entry)) ⌝ }
+{
+    are_within(bytes, 0x20, 0x7D)
+}
+
+// Whether every byte is printable.
+pub fn are_printable(bytes: &[u8]) -> bool
+    ensures { λ r. ⌜ r ≡ areAll Printable (now (bytes .entry)) ⌝ }
+{
+    are_within(bytes, 0x20, 0x7E)
+}
+
+// Whether a name is an identifier.
+pub fn is_identifier(name: &[u8]) -> bool
+    ensures { λ r. ⌜ r ≡ isIdentifier (now (name .entry)) ⌝ }
+{
+    if name.len() < 1 {
+        return false;
+    }
+    if 40 < name.len() {
+        return false;
+    }
+    if !is_alphanumeric(name[0]) {
+        return false;
+    }
+    are_all(Class::Identifier, name)
+}

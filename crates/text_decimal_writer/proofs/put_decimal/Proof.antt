@@ -1,0 +1,18 @@
+-- `text_decimal_writer::put_decimal` meets its contract: at most ten digits.
+use Rattle.text_decimal_writer.specs.Digits.{decimalBytes}
+use Rattle.text_decimal_writer.proofs.DigitLaws.{digits-room, digits-short}
+use borrow.Author.Needs.{needs}
+use Rattle.text_decimal_writer.proofs.put_decimal.Statement.{statement}
+use Rattle.text_decimal_writer.proofs.put_decimal.Tie as tie
+
+returns : tie.Need-returns
+unfolding decimalBytes
+returns c = (search needs, search digits-short)
+
+pub put-decimal-spec : {M : Type 1} → statement M
+put-decimal-spec =
+    tie.close
+    (tie.spec
+    (λ c κs. search digits-room)
+    (λ c. search needs)
+    returns)
