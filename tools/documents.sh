@@ -6,7 +6,8 @@
 #   tree, and `make WORD` is a command of the Makefile;
 # - README.md lists, under "Where things are", every crate of crates.txt and no other;
 # - the counts of docs/TRUST.md are those of tools/definitions.sh, and the kit that it names is that of tools/kit;
-# - no line but a table's or a sample's is wider than 120 characters.
+# - no line but a table's or a sample's is wider than 120 characters, and none of code and definitions (crates/*/src and
+#   crates/*/specs).
 # Without an argument it first tries itself: it must find what is wrong in broken copies of the documents.
 set -eu -o pipefail
 export LC_ALL=C.UTF-8 # its order of bytes for sort and comm, its characters for the width of a line
@@ -117,6 +118,12 @@ read_tree() {
       grep -oE "$name" "$work/files"; } | sort -u > "$work/words"
 }
 
+# Lines of code and of definitions that are wider than 120 characters.
+wide_code() {
+    grep -nE "^.{$((width + 1))}" crates/*/src/*.rt crates/*/specs/*.antt |
+        sed -E "s/^([^:]*:[0-9]+):.*/\1: wider than $width characters/" || true
+}
+
 # Prints what is wrong with the documents $2.. of the tree $1, and fails if there is anything.
 held() (
     cd "$1"
@@ -127,7 +134,8 @@ held() (
           wide "$each"
       done
       crates
-      counts; } > "$work/found"
+      counts
+      wide_code; } > "$work/found"
     cat "$work/found"
     [ ! -s "$work/found" ]
 )
@@ -169,6 +177,7 @@ finds docs/DECISIONS.md '0,/`([a-z]+[A-Z][A-Za-z0-9]*`)/s//`no\1/' 'nothing in t
 finds docs/DECISIONS.md '0,/^- /s//- once more the same, and once more the same, and once more the same, /' 'wider than'
 finds docs/TRUST.md 's/^(\| all [0-9]+ files \| )/\11/' 'stated <, counted'
 finds docs/TRUST.md "s/$(cat tools/kit)/& no/" 'the kit is'
+finds crates/diminurel/src/lib.rt "1s/\$/$(printf 'x%.0s' {1..120})/" 'lib.rt:1: wider than 120'
 echo "documents: broken ones are found"
 held "$top" ${documents[@]}
 echo "documents: what they name is there"
