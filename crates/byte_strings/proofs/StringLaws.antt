@@ -59,6 +59,16 @@ module _ (a b : List ℕ) (i : ℕ) (x : Bool) (inv : sameBytes (drop i a) (drop
     same-turn o = rw (eq-eqb (getD a i 0) (getD b i 0) o) at (sym (same-cons a b i h (omega arith)) ∙ inv)
 
 -- the test is equality
+-- same_secret: what was compared so far is the same and what is left is, as the whole is, x
+module _ (a b : List ℕ) (so : Bool) (i : ℕ) (x : Bool) (inv : (so && sameBytes (drop i a) (drop i b)) ≡ x) (l : length a ≡ length b) where
+  pub secret-turn : i < length a → ((so && eqb (getD a i 0) (getD b i 0)) && sameBytes (drop (i + 1) a) (drop (i + 1) b)) ≡ x
+  secret-turn h =
+      and-assoc so (eqb (getD a i 0) (getD b i 0)) (sameBytes (drop (i + 1) a) (drop (i + 1) b))
+      ∙ ap (λ (t : Bool). so && t) (sym (same-cons a b i h (omega arith))) ∙ inv
+
+  pub secret-ended : length a ≤ i → so ≡ x
+  secret-ended h = sym (and-true so) ∙ ap (λ (t : Bool). so && t) (same-ended a b i _ refl l h) ∙ inv
+
 -- one byte more behind strings of the same length
 pub same-behind : (p q : List ℕ) (x y : ℕ) → length p ≡ length q → sameBytes (p ++ (x ∷ [])) (q ++ (y ∷ [])) ≡ (sameBytes p q && eqb x y)
 same-behind [] [] x y e = and-true (eqb x y)

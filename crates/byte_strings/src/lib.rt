@@ -47,6 +47,24 @@ pub fn same_bytes(left: &[u8], right: &[u8]) -> bool
     true
 }
 
+// The same, for a secret: no byte ends the loop, so that the time taken does not tell where two strings of one length
+// differ.
+pub fn same_secret(left: &[u8], right: &[u8]) -> bool
+    ensures { λ r. ⌜ r ≡ sameBytes (now (left .entry)) (now (right .entry)) ⌝ }
+{
+    let count = left.len();
+    if count != right.len() {
+        return false;
+    }
+    let mut same = true;
+    let mut k = 0;
+    while k < count {
+        same = same & (left[k] == right[k]);
+        k += 1;
+    }
+    same
+}
+
 // The first bytes up to a count, or all where there are fewer.
 pub fn front<'a>(bytes: &'a [u8], count: usize) -> &'a [u8]
     ensures { λ t. ⌜ now t ≡ take count (now (bytes .entry)) ⌝ }

@@ -105,7 +105,7 @@ pub fn has_tvp(source: &[u8], row: SlotRow) -> bool
 pub fn has_tag(source: &[u8], supplement: Supplement) -> bool
     ensures { λ b. ⌜ b ≡ sameBytes (tagIn (now (source .entry))) (supplement .tag) ⌝ }
 {
-    byte_strings::same_bytes(record_parser::field(source, b'|', 4), &supplement.tag)
+    byte_strings::same_secret(record_parser::field(source, b'|', 4), &supplement.tag)
 }
 
 // SGC, or KRN, of the card in a record.
