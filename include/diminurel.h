@@ -9,6 +9,9 @@
  * - after power-up the host hands in GL?RS before anything else, since a session must not outlive the power;
  * - the supplement of each request is its own: clock, load request, expected tag, check value, and whether the
  *   cryptographic check of that request passed.
+ *
+ * The expected tag is the one secret: it is compared in a time that does not tell where it differs. Other times depend
+ * on what is in request, rows and supplement.
  */
 #ifndef DIMINUREL_H
 #define DIMINUREL_H
