@@ -31,40 +31,40 @@ pub enum TwoTexts {
 }
 
 // Whether the payload has no field.
-pub fn has_no_field(p: &[u8]) -> bool
-    ensures { λ r. ⌜ r ≡ areFieldsOf RS (valuesOf (now (p .entry))) ⌝ }
+pub fn has_no_field(payload: &[u8]) -> bool
+    ensures { λ r. ⌜ r ≡ areFieldsOf RS (valuesOf (now (payload .entry))) ⌝ }
 {
-    p.len() == 0
+    payload.len() == 0
 }
 
 // The only field, a string: its bounds.
-pub fn one_text(p: &[u8]) -> Found
-    ensures { λ r. ⌜ between (now (p .entry)) r ≡ textIn (valuesOf (now (p .entry))) ⌝ }
-    ensures within { λ r. ⌜ Within (length (now (p .entry))) r ⌝ }
+pub fn one_text(payload: &[u8]) -> Found
+    ensures { λ r. ⌜ between (now (payload .entry)) r ≡ textIn (valuesOf (now (payload .entry))) ⌝ }
+    ensures within { λ r. ⌜ Within (length (now (payload .entry))) r ⌝ }
 {
-    let Field::Text { start, end } = field_reader::only_field(p) else {
+    let Field::Text { start, end } = field_reader::only_field(payload) else {
         return Found::Nothing;
     };
     Found::At { start, end }
 }
 
 // The only field, a number.
-pub fn one_number(p: &[u8]) -> Count
-    ensures { λ r. ⌜ countIn r ≡ numberIn (valuesOf (now (p .entry))) ⌝ }
+pub fn one_number(payload: &[u8]) -> Count
+    ensures { λ r. ⌜ countIn r ≡ numberIn (valuesOf (now (payload .entry))) ⌝ }
 {
-    let Field::Number(n) = field_reader::only_field(p) else {
+    let Field::Number(n) = field_reader::only_field(payload) else {
         return Count::Nothing;
     };
     Count::Is(n)
 }
 
 // The two fields, both strings: their bounds.
-pub fn two_texts(p: &[u8]) -> TwoTexts
-    ensures { λ r. ⌜ firstBetween (now (p .entry)) r ≡ firstTextIn (valuesOf (now (p .entry))) ⌝ }
-    ensures second { λ r. ⌜ secondBetween (now (p .entry)) r ≡ secondTextIn (valuesOf (now (p .entry))) ⌝ }
-    ensures within { λ r. ⌜ TwoWithin (length (now (p .entry))) r ⌝ }
+pub fn two_texts(payload: &[u8]) -> TwoTexts
+    ensures { λ r. ⌜ firstBetween (now (payload .entry)) r ≡ firstTextIn (valuesOf (now (payload .entry))) ⌝ }
+    ensures second { λ r. ⌜ secondBetween (now (payload .entry)) r ≡ secondTextIn (valuesOf (now (payload .entry))) ⌝ }
+    ensures within { λ r. ⌜ TwoWithin (length (now (payload .entry))) r ⌝ }
 {
-    let two = field_reader::two_fields(p);
+    let two = field_reader::two_fields(payload);
     let first = two.first;
     let Field::Text { start, end } = first else {
         return TwoTexts::Nothing;

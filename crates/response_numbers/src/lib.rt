@@ -19,10 +19,10 @@ pub enum ReplyForm {
 pub struct Entry(pub u8, pub ReplyForm);
 
 // The table of the refusals.
-pub fn entry_of(r: Refusal) -> Entry
-    ensures { λ e. ⌜ refusalIn e ≡ refusal r ⌝ }
+pub fn entry_of(reason: Refusal) -> Entry
+    ensures { λ e. ⌜ refusalIn e ≡ refusal reason ⌝ }
 {
-    match r {
+    match reason {
         Refusal::RowCounts => Entry(1, ReplyForm::Nothing),
         Refusal::ShortBuffer => Entry(2, ReplyForm::Nothing),
         Refusal::UnsoundRows => Entry(3, ReplyForm::Nothing),
@@ -48,18 +48,18 @@ pub fn entry_of(r: Refusal) -> Entry
 }
 
 // The number of a refusal.
-fn refusal_number(r: Refusal) -> u8
-    ensures { λ n. ⌜ n ≡ refusal r .number ⌝ }
+fn refusal_number(reason: Refusal) -> u8
+    ensures { λ n. ⌜ n ≡ refusal reason .number ⌝ }
 {
-    let e = entry_of(r);
+    let e = entry_of(reason);
     e.0
 }
 
 // The number of an outcome: 0 where the request is accepted.
-pub fn outcome_number(o: Outcome) -> u8
-    ensures { λ n. ⌜ n ≡ outcomeNumber o ⌝ }
+pub fn outcome_number(outcome: Outcome) -> u8
+    ensures { λ n. ⌜ n ≡ outcomeNumber outcome ⌝ }
 {
-    match o {
+    match outcome {
         Outcome::Accepted(_) => 0,
         Outcome::Done => 0,
         Outcome::Refused(r) => refusal_number(r),
