@@ -33,7 +33,8 @@ fn main() {
     println!("nanoseconds a request, of the quickest of many rounds, the two engines in turn");
     println!("rows 1: one slot row and one register row, filled as the request needs them");
     println!("rows half: 8 slot rows and 32 register rows, 4 and 16 of them filled");
-    println!("rows full: 8 slot rows and 32 register rows, all filled\n");
+    println!("rows full: 8 slot rows and 32 register rows, all filled");
+    println!("  registers are under each slot in turn; in blocks: four under a slot, then four under the next\n");
     let scenes = scenes::all();
     print_times("request", &scenes);
     print_times("refused at question", &scenes::refused());

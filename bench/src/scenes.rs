@@ -1,4 +1,5 @@
-//! What is measured: tables of three fillings, and the calls over them. Requests, supplement and cards have the lengths of the examples of 001 clause 6.3.
+//! What is measured: tables of three fillings, full ones of further contents, and the calls over them. Requests,
+//! supplement and cards have the lengths of the examples of 001 clause 6.3, but where a content says otherwise.
 
 use reference::harness::requests;
 use reference::harness::tables::Tables;
@@ -14,20 +15,89 @@ const LOAD_REQUEST: &[u8] = b"VKLOAD.REQ.1|SMID.1:Prism:12345678:20130303T153830
 const NONCE: &[u8] = b"00000000000000000000000A";
 const ENCRYPTED: &[u8] = b"42A08D17E89E5B9DE6F863E13D044853B49880FE8560C449B61A77986079DB14E015734E";
 
-/// How many rows there are, and how many of them are filled.
+/// What the filled rows hold. Cards take the values of a list in turn.
+#[derive(Clone, Copy)]
+struct Content {
+    /// Follows the command.
+    title: &'static str,
+    /// What a slot's name has before its four digits.
+    name: &'static str,
+    /// How many registers, one after the other, are under the same slot.
+    block: usize,
+    /// ACT, BDT and IUT.
+    moments: &'static [[&'static str; 3]],
+    /// KEN, ULM and VND.
+    numbers: &'static [[&'static str; 3]],
+}
+
+const EXAMPLES: Content = Content {
+    title: "",
+    name: "Example-KMC-",
+    block: 1,
+    moments: &[["20130716T151031Z", "20130716T151031Z", "20380119T031407Z"]],
+    numbers: &[["255", "999999999", "0"]],
+};
+
+const BLOCKS: Content = Content { title: ", registers in blocks", block: 4, ..EXAMPLES };
+
+const LONG_NAMES: Content =
+    Content { title: ", names of 40 bytes", name: "Example-Key-Management-Centre-North-", ..EXAMPLES };
+
+const LATE_DAYS: Content = Content {
+    title: ", days after the 28th",
+    moments: &[
+        ["20130129T151031Z", "20120229T151031Z", "20381231T031407Z"],
+        ["20130730T151031Z", "20130430T151031Z", "20380330T031407Z"],
+        ["20130831T151031Z", "20130531T151031Z", "20400229T031407Z"],
+    ],
+    ..EXAMPLES
+};
+
+/// Each length that the number may have.
+const OTHER_NUMBERS: Content = Content {
+    title: ", numbers of all lengths",
+    numbers: &[
+        ["0", "1", "987654321"],
+        ["42", "12", "98765432"],
+        ["127", "123", "9876543"],
+        ["7", "1234", "987654"],
+        ["99", "12345", "98765"],
+        ["200", "123456", "9876"],
+        ["9", "1234567", "987"],
+        ["10", "12345678", "98"],
+        ["255", "123456789", "9"],
+    ],
+    ..EXAMPLES
+};
+
+/// All of them at once.
+const MIXED: Content = Content {
+    title: ", all of these",
+    block: BLOCKS.block,
+    name: LONG_NAMES.name,
+    moments: LATE_DAYS.moments,
+    numbers: OTHER_NUMBERS.numbers,
+};
+
+/// One friendly content would hide what a quick way costs elsewhere.
+const FURTHER: [Content; 5] = [BLOCKS, LONG_NAMES, LATE_DAYS, OTHER_NUMBERS, MIXED];
+
+/// How many rows there are, how many of them are filled, and with what.
 #[derive(Clone, Copy)]
 struct Filling {
     title: &'static str,
+    content: Content,
     slots: usize,
     registers: usize,
     filled_slots: usize,
     filled_registers: usize,
 }
 
-const FULL: Filling = Filling { title: "full", slots: 8, registers: 32, filled_slots: 8, filled_registers: 32 };
+const FULL: Filling =
+    Filling { title: "full", content: EXAMPLES, slots: 8, registers: 32, filled_slots: 8, filled_registers: 32 };
 const FILLINGS: [Filling; 3] = [
-    Filling { title: "1", slots: 1, registers: 1, filled_slots: 1, filled_registers: 1 },
-    Filling { title: "half", slots: 8, registers: 32, filled_slots: 4, filled_registers: 16 },
+    Filling { title: "1", content: EXAMPLES, slots: 1, registers: 1, filled_slots: 1, filled_registers: 1 },
+    Filling { title: "half", content: EXAMPLES, slots: 8, registers: 32, filled_slots: 4, filled_registers: 16 },
     FULL,
 ];
 
@@ -48,20 +118,8 @@ pub struct Scene {
     pub calls: Vec<Call>,
 }
 
-fn name(place: usize) -> Vec<u8> {
-    format!("Example-KMC-{:04}", place + 1).into_bytes()
-}
-
 fn group(place: usize) -> String {
     format!("{:010}", 758_825 + place)
-}
-
-fn stored(place: usize, slot: &[u8]) -> Vec<u8> {
-    let (group, revision, slot) = (group(place), place % 9 + 1, String::from_utf8_lossy(slot));
-    format!(
-        "ACT20130716T151031Z;BDT20130716T151031Z;CLMFFFFFFFF;CLU0;DKG04;IUT20380119T031407Z;KCV92E101;KEN255;KRN{revision};KSL{slot};KTC2;SBMFFFF;SGC{group};ULM999999999;VND0;"
-    )
-    .into_bytes()
 }
 
 fn own_identity() -> Vec<u8> {
@@ -84,13 +142,6 @@ fn respond(name: &[u8]) -> Vec<u8> {
     requests::respond(&kmc(name), &own_identity(), CLOCK, TAG)
 }
 
-/// SM?KL of the key that `stored` has at a place.
-fn load(slot: &[u8], place: usize) -> Vec<u8> {
-    let (group, revision) = (group(place), place % 9 + 1);
-    let card = format!("ACT20130716T151031Z;BDT20130716T151031Z;DKG04;KEN255;KRN{revision};KTC2;SGC{group};");
-    requests::load(slot, NONCE, card.as_bytes(), ENCRYPTED)
-}
-
 /// The request with the last digit of its record's checksum changed, and its frame made right.
 fn spoilt(mut request: Vec<u8>) -> Vec<u8> {
     let end = request.len() - 5;
@@ -98,30 +149,56 @@ fn spoilt(mut request: Vec<u8>) -> Vec<u8> {
     requests::frame(&request[..5], &request[5..end])
 }
 
+impl Content {
+    fn name(&self, place: usize) -> Vec<u8> {
+        format!("{}{:04}", self.name, place + 1).into_bytes()
+    }
+
+    fn stored(&self, place: usize, slot: &[u8]) -> Vec<u8> {
+        let [act, bdt, iut] = self.moments[place % self.moments.len()];
+        let [ken, ulm, vnd] = self.numbers[place % self.numbers.len()];
+        let (group, revision, slot) = (group(place), place % 9 + 1, String::from_utf8_lossy(slot));
+        let start = format!("ACT{act};BDT{bdt};CLMFFFFFFFF;CLU0;DKG04;IUT{iut};KCV92E101;KEN{ken};KRN{revision};");
+        let end = format!("KSL{slot};KTC2;SBMFFFF;SGC{group};ULM{ulm};VND{vnd};");
+        (start + &end).into_bytes()
+    }
+
+    /// SM?KL of the key that `stored` has at a place.
+    fn load(&self, slot: &[u8], place: usize) -> Vec<u8> {
+        let [act, bdt, _] = self.moments[place % self.moments.len()];
+        let [ken, ..] = self.numbers[place % self.numbers.len()];
+        let (group, revision) = (group(place), place % 9 + 1);
+        let card = format!("ACT{act};BDT{bdt};DKG04;KEN{ken};KRN{revision};KTC2;SGC{group};");
+        requests::load(slot, NONCE, card.as_bytes(), ENCRYPTED)
+    }
+}
+
 impl Filling {
-    /// Slots IDLE, but the last filled one in a state; registers under each slot in turn.
+    /// Slots IDLE, but the last filled one in a state; each slot in turn has a block of registers.
     fn tables(self, state: u8) -> Tables {
         let mut tables = Tables::empty(self.slots, self.registers);
+        let name = |place: usize| self.content.name(place);
         let last = self.filled_slots - 1;
         for place in 0..last {
             tables.put_slot(place, IDLE, &name(place), FINGERPRINT, b"");
         }
         tables.put_slot(last, state, &name(last), FINGERPRINT, if state == PENDING { CLOCK } else { b"" });
         for place in 0..self.filled_registers {
-            tables.put_card(place, &stored(place, &name(place % self.filled_slots)));
+            let slot = name(place / self.content.block % self.filled_slots);
+            tables.put_card(place, &self.content.stored(place, &slot));
         }
         tables
     }
 
     /// The last filled slot, which every search finds last.
     fn last(self) -> Vec<u8> {
-        name(self.filled_slots - 1)
+        self.content.name(self.filled_slots - 1)
     }
 
     /// A slot for SM?KC and a key for SM?KL: new where there are free rows, else the last.
     fn taken(self) -> (Vec<u8>, usize) {
         let (slot, key) = (self.filled_slots.min(self.slots - 1), self.filled_registers.min(self.registers - 1));
-        (name(slot), key)
+        (self.content.name(slot), key)
     }
 
     fn scene(self, title: &str, tables: Tables, calls: Vec<Call>) -> Scene {
@@ -136,12 +213,12 @@ impl Filling {
             Command::RS | Command::GL => (LOADING, requests::bare(command)),
             Command::KC => (IDLE, begin(&slot)),
             Command::KR => (PENDING, respond(&self.last())),
-            Command::KL => (LOADING, load(&self.last(), key)),
+            Command::KL => (LOADING, self.content.load(&self.last(), key)),
             Command::KF => (LOADING, requests::of_slot(command, &self.last())),
             Command::KX | Command::KQ => (IDLE, requests::of_slot(command, &self.last())),
             Command::KD | Command::GA => (IDLE, requests::of_register(command, register)),
         };
-        let title = String::from_utf8_lossy(command.header()).into_owned();
+        let title = String::from_utf8_lossy(command.header()).into_owned() + self.content.title;
         self.scene(&title, self.tables(state), vec![Call::Handle(request, 0)])
     }
 
@@ -150,6 +227,7 @@ impl Filling {
         let slot = self.last();
         let key = self.filled_registers - 1;
         let register = self.filled_registers as u64;
+        let load = || self.content.load(&slot, key);
         let of_slot = |command: Command| requests::of_slot(command, &slot);
         let of_register = |command: Command| requests::of_register(command, register);
         let forged = requests::respond(&kmc(&slot), &own_identity(), CLOCK, &[&TAG[1..], b"0"].concat());
@@ -159,17 +237,17 @@ impl Filling {
             (of_slot(Command::KQ), 0),
             (requests::begin(&kmc(&slot), KEY, CLOCK, [b"", b""]), 11),
             (begin(&slot), 0),
-            (load(&slot, key), 14),
+            (load(), 14),
             (forged, 18),
             (respond(&slot), 0),
             (respond(&slot), 14),
-            (load(&slot, key), 0),
+            (load(), 0),
             (requests::load(&slot, NONCE, b"ACT20130716T151031Z;BDT20130716T151031Z;", ENCRYPTED), 10),
             (of_register(Command::GA), 0),
             (of_slot(Command::KQ), 0),
             (of_register(Command::KD), 0),
             (of_register(Command::KD), 21),
-            (load(&slot, key), 0),
+            (load(), 0),
             (of_slot(Command::KF), 0),
             (of_slot(Command::KF), 14),
             (requests::of_slot(Command::KX, b"Example-KMC"), 12),
@@ -177,7 +255,7 @@ impl Filling {
             (requests::frame(Command::KD.header(), b"P1~"), 8),
             (b"SM?GAN1~0000\r".to_vec(), 6),
             (begin(&slot)[..40].to_vec(), 5),
-            (spoilt(load(&slot, key)), 9),
+            (spoilt(load()), 9),
             (of_slot(Command::KX), 0),
         ];
         let calls = calls.into_iter().map(|(request, outcome)| Call::Handle(request, outcome)).collect();
@@ -192,9 +270,14 @@ impl Filling {
     }
 }
 
-/// Each command, a mixed history and `usable`, over each filling.
+/// Each command, a mixed history and `usable`, over each filling; then four commands over each further content.
 pub fn all() -> Vec<Scene> {
-    FILLINGS.into_iter().flat_map(Filling::scenes).collect()
+    let mut scenes: Vec<Scene> = FILLINGS.into_iter().flat_map(Filling::scenes).collect();
+    for content in FURTHER {
+        let full = Filling { content, ..FULL };
+        scenes.extend([Command::RS, Command::KC, Command::KR, Command::KL].map(|command| full.accepted(command)));
+    }
+    scenes
 }
 
 /// Requests over full tables that end at a question: what each costs is what the questions up to it cost.
@@ -213,7 +296,7 @@ pub fn refused() -> Vec<Scene> {
     last.tables.registers[31].card[255] = 1;
     let mut bad = scene("4, supplement's last byte", reset.clone(), 4);
     bad.supplement.passed = 2;
-    let mut wrong = load(&FULL.last(), 31);
+    let mut wrong = FULL.content.load(&FULL.last(), 31);
     let place = wrong.len() - 2;
     wrong[place] ^= 1;
     vec![

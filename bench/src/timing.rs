@@ -233,6 +233,9 @@ impl<'a, E: Engine> Timed<'a, E> {
 pub fn compare(scenes: &[Scene]) -> Vec<(f64, f64)> {
     let mut timed: Vec<_> =
         scenes.iter().map(|scene| (Timed::<Proved>::new(scene), Timed::<Fast>::new(scene))).collect();
+    for (scene, (proved, fast)) in scenes.iter().zip(&timed) {
+        assert!(proved.stage.response == fast.stage.response, "{}: two responses", scene.title);
+    }
     for _ in 0..ROUNDS {
         for (proved, fast) in &mut timed {
             proved.round();
