@@ -1,5 +1,5 @@
 # The commands that README.md names.
-.PHONY: help test run vectors compare fuzz bench format documents
+.PHONY: help test run vectors compare fuzz bench way format documents
 
 # The default: prints the commands with the time that they take.
 help:
@@ -9,6 +9,7 @@ help:
 	@echo 'make compare N=calls SEED=seed  the engine beside the second implementation                 7 min, 1 min'
 	@echo 'make fuzz N=calls SEED=seed     random calls alone, a million unless told otherwise         7 min, 1 min'
 	@echo 'make bench                      time, stack and size beside an engine written for speed     7 min, 1 min'
+	@echo 'make way                        functions and copies on the way of a request                 7 min, 20 s'
 	@echo 'make documents                  the documents held to the tree                                      10 s'
 	@echo 'make format                     lays the files out                                                   5 s'
 	@echo 'On two cores. Where two times stand, the first is from nothing, the second with all proved already.'
@@ -44,3 +45,7 @@ fuzz:
 # Prints time, stack and size of the engine beside those of an engine written for speed in bench/.
 bench:
 	@bash tools/bench.sh
+
+# Prints the functions that an SM?KL may reach, and the copies that a request of each command makes.
+way:
+	@bash tools/way.sh

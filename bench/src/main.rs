@@ -1,5 +1,6 @@
 //! Time and stack of the proved engine beside an engine written for speed, in the same run. Nothing here fails by a figure.
 
+mod copies;
 mod scenes;
 mod stack;
 mod timing;
@@ -29,7 +30,21 @@ fn deepest<E: Engine>(scenes: &[Scene]) -> String {
     deepest.map_or_else(String::new, |(depth, scene)| format!("{depth} bytes ({}, rows {})", scene.title, scene.rows))
 }
 
+/// Calls of memcpy or memmove and of memset that a request makes on full tables, and their bytes.
+fn print_copies() {
+    println!("| request | copies |  bytes | sets |  bytes |");
+    println!("|---------|-------:|-------:|-----:|-------:|");
+    for scene in &scenes::accepted() {
+        let mut stage = Stage::<Proved>::new(scene);
+        let [copied, set] = copies::count(|| stage.play());
+        println!("| {:<7} | {:>6} | {:>6} | {:>4} | {:>6} |", scene.title, copied.0, copied.1, set.0, set.1);
+    }
+}
+
 fn main() {
+    if std::env::args().nth(1).is_some_and(|word| word == "copies") {
+        return print_copies();
+    }
     println!("nanoseconds a request, of the quickest of many rounds, the two engines in turn");
     println!("rows 1: one slot row and one register row, filled as the request needs them");
     println!("rows half: 8 slot rows and 32 register rows, 4 and 16 of them filled");

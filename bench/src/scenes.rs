@@ -280,6 +280,11 @@ pub fn all() -> Vec<Scene> {
     scenes
 }
 
+/// An accepted request of each command, over full tables.
+pub fn accepted() -> [Scene; 10] {
+    Command::ALL.map(|command| FULL.accepted(command))
+}
+
 /// Requests over full tables that end at a question: what each costs is what the questions up to it cost.
 pub fn refused() -> Vec<Scene> {
     let scene = |title: &str, request: Vec<u8>, outcome: u8| {
