@@ -1,0 +1,17 @@
+-- A part of a byte string, by its bounds.
+use Prim.Native.Nat.{ℕ, _+_, _-_, _≤_}
+use mathlib.Core.List.{List}
+use lib.ListN.{take, drop}
+use Rattle.byte_bounds.specs.declared.Bounds.{Bounds}
+
+-- the bytes within bounds
+abbrev pub bytesIn : List ℕ → Bounds → List ℕ
+bytesIn s b = take (b .end - b .start) (drop (b .start) s)
+
+-- the bounds lie within n bytes
+abbrev pub FitIn : ℕ → Bounds → Type 0
+FitIn n b = (b .start ≤ b .end) × (b .end ≤ n)
+
+-- the bounds in the whole of what has the bounds b in the part with the bounds a
+abbrev pub inside : Bounds → Bounds → Bounds
+inside a b = record { start = a .start + b .start; end = a .start + b .end }
