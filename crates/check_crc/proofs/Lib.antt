@@ -1,5 +1,8 @@
+pub mod Xor
 pub mod Linear
-pub mod EveryEntry
-pub mod Entries
+pub mod Parity
+pub mod Eights
+pub mod Words
+pub mod Folds
 pub mod Steps
 pub mod Bound

@@ -1,107 +1,71 @@
--- Exclusive or is associative, and the eight bits of a byte may be taken apart from the rest: the table's rule.
-use mathlib.Core.Path.{_≡_, refl, sym, ap, ap₂, _∙_}
+-- Linear functions: what they make of an exclusive or is the exclusive or of what they make of its parts. Shifts and remainders
+-- by powers of two are linear, and two linear functions that agree at the powers of two agree.
+use mathlib.Core.Path.{_≡_, refl, sym, ap, ap₂, subst, _∙_}
+use mathlib.Core.Logic.{⊎-elim}
 use Prim.Native.Nat.{ℕ, zero, suc, _+_, _*_, _/_, _%_, _<_, _^_}
-use native.Mathlib.Nat.{div-add-mod'}
-use native.Mathlib.Omega.{arith}
-use mathlib.Core.Logic.{_⊎_, inl, inr, ⊎-elim}
-use lib.Dec.{lit<}
-use lib.Arith.{bin-ind, digits-mod}
-use lib.Bits.{bitXor, differ, xor-step, xor-shr, xor-zero-r, xor-comm, xor-shifted}
-use Rattle.check_crc.specs.Crc.{crcBit, crcEight, crcByte}
+use native.Mathlib.Nat.{add-zero, zero-add, zero-mul, one-mul, mod-lt, le-refl, le-suc, lt-of-lt-of-le}
+use native.Mathlib.Numerals.{one-add}
+use lib.Dec.{T, eqb, eqb→eq}
+use lib.Arith.{lt-one}
+use lib.Pow.{pow-pos, split, shr-lt}
+use lib.Bits.{bitXor, xor-shr, xor-mod, xor-block, xor-self, xor-zero-r, xor-shifted}
+use Rattle.byte_strings.proofs.Below.{allBelow, at-below}
+use Rattle.check_crc.proofs.Xor.{bit, xor-swap}
 
--- a number below 2 is 0 or 1
-bit : (n : ℕ) → n < 2 → (n ≡ 0) ⊎ (n ≡ 1)
-bit zero h = inl refl
-bit (suc zero) h = inr refl
-bit (suc (suc n)) h = absurd (omega arith)
+abbrev pub Linear : (ℕ → ℕ) → Type 0
+Linear f = (a b : ℕ) → f (bitXor a b) ≡ bitXor (f a) (f b)
 
-differ-bits : (x y z : ℕ) → x < 2 → y < 2 → z < 2 → differ (differ x y) z ≡ differ x (differ y z)
-differ-bits x y z hx hy hz =
-    ⊎-elim (λ (ex : x ≡ 0). rw ex)
-    (λ (ex : x ≡ 1). ⊎-elim (λ (ey : y ≡ 0). rw (ex, ey)) (λ (ey : y ≡ 1). ⊎-elim (λ (ez : z ≡ 0). rw (ex, ey, ez)) (λ (ez : z ≡ 1). rw (ex, ey, ez)) (bit z hz)) (bit y hy))
+pub id-linear : Linear (λ n. n)
+id-linear a b = refl
+
+pub right-linear : (k : ℕ) → Linear (λ n. n / 2 ^ k)
+right-linear k a b = xor-shr a b k
+
+pub low-linear : (k : ℕ) → Linear (λ n. n % 2 ^ k)
+low-linear k a b = xor-mod a b k
+
+pub left-linear : (k : ℕ) → Linear (λ n. n * 2 ^ k)
+left-linear k a b =
+    sym (add-zero (bitXor a b * 2 ^ k)) ∙ sym (xor-block k a b 0 0 (pow-pos k) (pow-pos k))
+    ∙ ap₂ bitXor (add-zero (a * 2 ^ k)) (add-zero (b * 2 ^ k))
+
+module _ (f g : ℕ → ℕ) (hf : Linear f) (hg : Linear g) where
+  pub both-linear : Linear (λ n. bitXor (f n) (g n))
+  both-linear a b = ap₂ bitXor (hf a b) (hg a b) ∙ xor-swap (f a) (f b) (g a) (g b)
+
+  pub then-linear : Linear (λ n. g (f n))
+  then-linear a b = ap g (hf a b) ∙ hg (f a) (f b)
+
+  zeros : f 0 ≡ g 0
+  zeros = hf 0 0 ∙ xor-self (f 0) ∙ sym (xor-self (g 0)) ∙ sym (hg 0 0)
+
+  -- a digit d above, the digits of r below
+  digit : (k d r : ℕ) → d < 2 → r < 2 ^ k → f (2 ^ k) ≡ g (2 ^ k) → f r ≡ g r → f (d * 2 ^ k + r) ≡ g (d * 2 ^ k + r)
+  digit k d r hd hr e er =
+      ⊎-elim (λ (z : d ≡ 0). rw (z, zero-mul (2 ^ k), zero-add r) er)
+      (λ (o : d ≡ 1).
+      rw (o, ← xor-shifted 1 k r hr, one-mul (2 ^ k)) (hf (2 ^ k) r ∙ ap₂ bitXor e er ∙ sym (hg (2 ^ k) r)))
+      (bit d hd)
+
+  pub basis : (k : ℕ) → ((i : ℕ) → i < k → f (2 ^ i) ≡ g (2 ^ i)) → (n : ℕ) → n < 2 ^ k → f n ≡ g n
+  basis zero e n h = rw (lt-one h) zeros
+  basis (suc k) e n h =
+      subst (λ (m : ℕ). f m ≡ g m) (split n k)
+      (digit k (n / 2 ^ k) (n % 2 ^ k) (shr-lt 1 k (rw (one-add k) h)) (mod-lt n (pow-pos k)) (e k (le-refl (suc k)))
+      (basis k (λ i l. e i (lt-of-lt-of-le l (le-suc k))) (n % 2 ^ k) (mod-lt n (pow-pos k))))
+
+  -- the same, by a test that antt computes
+  pub by-basis : (k : ℕ) → T (allBelow (λ i. eqb (f (2 ^ i)) (g (2 ^ i))) k) → (n : ℕ) → n < 2 ^ k → f n ≡ g n
+  by-basis k t = basis k (λ i l. eqb→eq (f (2 ^ i)) (g (2 ^ i)) (at-below (λ j. eqb (f (2 ^ j)) (g (2 ^ j))) k t i l))
+
+-- a bit times a number
+bit-times : (m x y : ℕ) → x < 2 → y < 2 → bitXor x y * m ≡ bitXor (x * m) (y * m)
+bit-times m x y hx hy =
+    ⊎-elim (λ (ex : x ≡ 0). rw (ex, zero-mul m))
+    (λ (ex : x ≡ 1).
+    ⊎-elim (λ (ey : y ≡ 0). rw (ex, ey, zero-mul m, one-mul m) (sym (xor-zero-r m)))
+    (λ (ey : y ≡ 1). rw (ex, ey, one-mul m) (zero-mul m ∙ sym (xor-self m))) (bit y hy))
     (bit x hx)
 
-differ-lt : (x y : ℕ) → x < 2 → y < 2 → differ x y < 2
-differ-lt x y hx hy =
-    ⊎-elim (λ (ex : x ≡ 0). rw ex hy) (λ (ex : x ≡ 1). ⊎-elim (λ (ey : y ≡ 0). rw (ex, ey) (lit< tt)) (λ (ey : y ≡ 1). rw (ex, ey) (lit< tt)) (bit y hy)) (bit x hx)
-
-xor-half : (a b : ℕ) → bitXor a b / 2 ≡ bitXor (a / 2) (b / 2)
-xor-half a b = xor-shr a b 1
-
-xor-odd : (a b : ℕ) → bitXor a b % 2 ≡ differ (a % 2) (b % 2)
-xor-odd a b = ap (λ (k : ℕ). k % 2) (xor-step a b) ∙ digits-mod (bitXor (a / 2) (b / 2)) (differ-lt (a % 2) (b % 2) (omega arith) (omega arith))
-
-pub xor-assoc : (a b c : ℕ) → bitXor (bitXor a b) c ≡ bitXor a (bitXor b c)
-xor-assoc a =
-    bin-ind (λ (n : ℕ). (b c : ℕ) → bitXor (bitXor n b) c ≡ bitXor n (bitXor b c))
-    (λ b c. refl)
-    (λ n ih b c.
-    xor-step (bitXor n b) c
-    ∙ ap₂ (λ (x y : ℕ). x * 2 + y)
-    (ap (λ (k : ℕ). bitXor k (c / 2)) (xor-half n b) ∙ ih (b / 2) (c / 2) ∙ ap (bitXor (n / 2)) (sym (xor-half b c)))
-    (ap (λ (k : ℕ). differ k (c % 2)) (xor-odd n b) ∙ differ-bits (n % 2) (b % 2) (c % 2) (omega arith) (omega arith) (omega arith) ∙ ap (differ (n % 2)) (sym (xor-odd b c)))
-    ∙ sym (xor-step n (bitXor b c)))
-    a
-
--- (a ^ b) ^ (c ^ d) is (a ^ c) ^ (b ^ d)
-xor-swap : (a b c d : ℕ) → bitXor (bitXor a b) (bitXor c d) ≡ bitXor (bitXor a c) (bitXor b d)
-xor-swap a b c d =
-    xor-assoc a b (bitXor c d)
-    ∙ ap (bitXor a) (sym (xor-assoc b c d) ∙ ap (λ (k : ℕ). bitXor k d) (xor-comm b c) ∙ xor-assoc c b d)
-    ∙ sym (xor-assoc a c (bitXor b d))
-
--- the polynomial where the bits differ
-poly : (x y : ℕ) → x < 2 → y < 2 → differ x y * 0xA001 ≡ bitXor (x * 0xA001) (y * 0xA001)
-poly x y hx hy =
-    ⊎-elim (λ (ex : x ≡ 0). rw ex) (λ (ex : x ≡ 1). ⊎-elim (λ (ey : y ≡ 0). rw (ex, ey)) (λ (ey : y ≡ 1). rw (ex, ey)) (bit y hy)) (bit x hx)
-
-pub bit-linear : (a b : ℕ) → crcBit (bitXor a b) ≡ bitXor (crcBit a) (crcBit b)
-unfolding crcBit
-bit-linear a b =
-    ap₂ bitXor (xor-half a b) (ap (λ (k : ℕ). k * 0xA001) (xor-odd a b) ∙ poly (a % 2) (b % 2) (omega arith) (omega arith))
-    ∙ xor-swap (a / 2) (b / 2) (a % 2 * 0xA001) (b % 2 * 0xA001)
-
-pub eight-linear : (a b : ℕ) → crcEight (bitXor a b) ≡ bitXor (crcEight a) (crcEight b)
-unfolding crcEight
-eight-linear a b = simp bit-linear
-
--- an even number is only shifted
-even : (n : ℕ) → crcBit (n * 2) ≡ n
-unfolding crcBit
-even n =
-    let h : n * 2 / 2 ≡ n = omega arith in
-    let o : n * 2 % 2 ≡ 0 = omega arith in
-    rw (h, o) (xor-zero-r n)
-
-pub eight-high : (h : ℕ) → crcEight (h * 256) ≡ h
-unfolding crcEight
-eight-high h =
-    let e : h * 256 ≡ h * 2 * 2 * 2 * 2 * 2 * 2 * 2 * 2 = omega arith in
-    rw e (simp even)
-
--- the rule: the high byte, and what becomes of the low one
-pub eight-split : (n : ℕ) → crcEight n ≡ bitXor (n / 256) (crcEight (n % 256))
-eight-split n =
-    let h : n % 256 < 2 ^ 8 = omega arith in
-    ap crcEight (sym (div-add-mod' n 256) ∙ sym (xor-shifted (n / 256) 8 (n % 256) h))
-    ∙ eight-linear (n / 256 * 256) (n % 256)
-    ∙ ap (λ (k : ℕ). bitXor k (crcEight (n % 256))) (eight-high (n / 256))
-
--- a byte b leaves the high byte of c alone
-pub byte-split : (c b : ℕ) → b < 256 → crcByte c b ≡ bitXor (c / 256) (crcEight (bitXor c b % 256))
-unfolding crcByte
-byte-split c b h =
-    let o : b / 256 ≡ 0 = omega arith in
-    eight-split (bitXor c b)
-    ∙ ap (λ (k : ℕ). bitXor k (crcEight (bitXor c b % 256)))
-    (xor-shr c b 8 ∙ ap (bitXor (c / 256)) o ∙ xor-zero-r (c / 256))
-
--- two bytes: what sixteen bits make of the place of the first, and eight of the high half of c with the second
-pub two-split : (c b d : ℕ) → b < 256
-    → crcByte (crcByte c b) d ≡ bitXor (crcEight (crcEight (bitXor c b % 256))) (crcEight (bitXor (c / 256) d))
-unfolding crcByte
-two-split c b d h =
-    let e : ℕ = crcEight (bitXor c b % 256) in
-    ap (λ (k : ℕ). crcEight (bitXor k d)) (byte-split c b h ∙ xor-comm (c / 256) e)
-    ∙ ap crcEight (xor-assoc e (c / 256) d)
-    ∙ eight-linear e (bitXor (c / 256) d)
+pub times-linear : (m : ℕ) (f : ℕ → ℕ) → Linear f → ((n : ℕ) → f n < 2) → Linear (λ n. f n * m)
+times-linear m f hf h a b = ap (λ (k : ℕ). k * m) (hf a b) ∙ bit-times m (f a) (f b) (h a) (h b)

@@ -1,63 +1,133 @@
--- The steps over the bytes: the check value from c of what is left from i is that of what is left after i, from c with the byte at i.
--- A byte leaves the high half of the check value alone, so the tables have what becomes of the low half by eight bits, and by sixteen.
-use mathlib.Core.Path.{_≡_, refl, sym, ap, _∙_}
+-- The steps over the bytes: the check value from the value so far of the bytes that are left is the whole.
+use mathlib.Core.Path.{_≡_, refl, sym, ap, ap₂, _∙_}
+use mathlib.Core.Logic.{⊎-elim}
 use mathlib.Core.List.{List}
-use Prim.Native.Nat.{ℕ, _+_, _-_, _<_, _≤_, _/_, _%_}
+use Prim.Native.Nat.{ℕ, zero, suc, _+_, _-_, _*_, _/_, _%_, _<_, _≤_, _^_}
+use native.Mathlib.Nat.{mod-lt, div-eq-of-lt, mod-eq-of-lt}
 use native.Mathlib.Numerals.{add-one}
 use native.Mathlib.Omega.{arith}
-use lib.Bits.{bitXor, xor-lt}
-use lib.ListN.{length, getD, drop, drop-of-length-le}
-use lib.Seq.{drop-cons}
-use Rattle.check_crc.specs.Crc.{crcByte, crcOf}
-use Rattle.check_crc.proofs.Entries.{table, second, entry, second-entry}
-use Rattle.check_crc.proofs.Bound.{byte-bound}
-use Rattle.check_crc.proofs.Linear.{byte-split, two-split}
+use lib.Dec.{lit<}
+use lib.Pow.{split}
+use lib.Bits.{bitXor, xor-zero-r, xor-self, xor-comm, xor-lt, xor-shifted}
+use lib.Count.{ones}
+use lib.ListN.{length, getD, drop, replicate, take, length-drop, drop-of-length-le}
+use lib.Seq.{drop-cons, drop-drop}
+use Rattle.byte_strings.proofs.StringLaws.{rest}
+use Rattle.check_crc.specs.Crc.{crcBit, crcEight, crcByte, crcOf}
+use Rattle.check_crc.specs.Words.{littleEndian}
+use Rattle.check_crc.proofs.Xor.{bit, xor-assoc}
+use Rattle.check_crc.proofs.Linear.{right-linear, low-linear}
+use Rattle.check_crc.proofs.Parity.{parityOf, parity-bit}
+use Rattle.check_crc.proofs.Eights.{eights, eights-add, eights-high, eights-linear}
+use Rattle.check_crc.proofs.Folds.{factor, factor-linear, ones-factor, seven-law}
+use Rattle.check_crc.proofs.Words.{Bytes, bytes-drop, word-small, word-low, crc-word, crc-xor, crc-zeros}
 
-crc-next : (c : ℕ) (s : List ℕ) (i : ℕ) → i < length s → crcOf c (drop i s) ≡ crcOf (crcByte c (getD s i 0)) (drop (i + 1) s)
-crc-next c s i h = rw (add-one, drop-cons s i 0)
+-- byte by byte
+pub byte-turn : (whole c x : ℕ) (s : List ℕ) (i : ℕ) → i < length s → crcOf c (drop i s) ≡ whole → x ≡ crcByte c (getD s i 0)
+    → crcOf x (drop (i + 1) s) ≡ whole
+byte-turn whole c x s i h p e = ap (λ (k : ℕ). crcOf k (drop (i + 1) s)) e ∙ sym (rw (drop-cons s i 0 h, ← add-one i)) ∙ p
 
--- the check value after one more byte, n its place in the table
-by-table : (c b n : ℕ) → b < 256 → n ≡ bitXor c b % 256 → bitXor (c / 256) (getD table n 0) ≡ crcByte c b
-by-table c b n h e =
-    let k : n < 256 = omega arith in
-    ap (bitXor (c / 256)) (rw e (entry (bitXor c b % 256) (omega (arith, k, e)))) ∙ sym (byte-split c b h)
+pub bytes-end : (whole c : ℕ) (s : List ℕ) (i : ℕ) → length s ≤ i → crcOf c (drop i s) ≡ whole → c ≡ whole
+bytes-end whole c s i h p = sym (ap (crcOf c) (drop-of-length-le s h)) ∙ p
 
--- and after two more: the first is placed by the low half, the second by the high one
-by-tables : (c b d n m : ℕ) → c < 65536 → b < 256 → d < 256 → n ≡ bitXor c b % 256 → m ≡ bitXor (c / 256) d % 256
-    → bitXor (getD second n 0) (getD table m 0) ≡ crcByte (crcByte c b) d
-by-tables c b d n m hc hb hd e f =
-    let k : bitXor (c / 256) d < 256 = xor-lt 8 (c / 256) d (omega arith) hd in
-    let g : m ≡ bitXor (c / 256) d = omega arith in
-    let q : bitXor c b % 256 < 256 = omega arith in
-    rw (e, g, second-entry (bitXor c b % 256) q, entry (bitXor (c / 256) d) k) (sym (two-split c b d hb))
+-- no bit changes the second factor
+factor-stays : (k b : ℕ) → b < 2 → eights k (b * 0xC001) ≡ b * 0xC001
+unfolding eights crcEight crcBit
+factor-stays zero b h = refl
+factor-stays (suc k) b h =
+    ⊎-elim (λ (e : b ≡ 0). rw e (factor-stays k 0 (lit< tt))) (λ (e : b ≡ 1). rw e (factor-stays k 1 (lit< tt))) (bit b h)
 
--- the value so far: it fits, and the check value from it of the bytes that are left is the whole
-pub record SoFar (whole c : ℕ) (left : List ℕ) : Type 0 where
-  pub fits : c < 65536
-  pub goes : crcOf c left ≡ whole
+-- what eight bytes make the same but for the second factor, more bytes do
+same-but : (a u b : ℕ) (s : List ℕ) → 8 ≤ length s → eights 8 a ≡ bitXor (eights 8 u) (factor b) → crcOf a s ≡ bitXor (crcOf u s) (factor b)
+unfolding factor
+same-but a u b s h e =
+    let d : ℕ = bitXor u a in
+    let n : ℕ = length s - 8 in
+    let whole : length s ≡ 8 + n = omega arith in
+    let there : (x y : ℕ) → bitXor x (bitXor x y) ≡ y = λ x y. sym (xor-assoc x x y) ∙ ap (λ (z : ℕ). bitXor z y) (xor-self x) in
+    let eight : eights 8 d ≡ factor b = eights-linear 8 u a ∙ ap (bitXor (eights 8 u)) e ∙ there (eights 8 u) (factor b) in
+    let more : eights (length s) d ≡ factor b =
+    ap (λ (m : ℕ). eights m d) whole ∙ eights-add 8 n d ∙ ap (eights n) eight ∙ factor-stays n (parityOf 64 b) (parity-bit 64 b) in
+    ap (λ (x : ℕ). crcOf x s) (sym (there u a)) ∙ crc-xor u d s ∙ ap (bitXor (crcOf u s)) more
 
--- a turn of the loop; t and u are the tables
-pub crc-turn : (x c n m : ℕ) (t u s : List ℕ) (i : ℕ) → SoFar x c (drop i s) → t ≡ table → u ≡ second → 1 < length s - i
-    → n ≡ bitXor c (getD s i 0) % 256 → m ≡ bitXor (c / 256) (getD s (i + 1) 0) % 256 → getD s i 0 < 256 → getD s (i + 1) 0 < 256
-    → SoFar x (bitXor (getD u n 0) (getD t m 0)) (drop (i + 2) s)
-crc-turn x c n m t u s i p et eu h e f hb hd =
-    let j : i + 2 ≡ i + 1 + 1 = omega arith in
-    let b : ℕ = getD s i 0 in
-    let d : ℕ = getD s (i + 1) 0 in
-    rw (et, eu, by-tables c b d n m (p .fits) hb hd e f, j)
-    (record {
-      fits = byte-bound (crcByte c b) d (byte-bound c b (p .fits) hb) hd;
-      goes = sym (crc-next (crcByte c b) s (i + 1) (omega arith)) ∙ sym (crc-next c s i (omega arith)) ∙ p .goes;
-    })
+-- Seven bytes, the first of the eight of w. What was above seven bytes comes down.
+module _ (v w : ℕ) (s : List ℕ) (g : Bytes s) (h : 7 ≤ length s) (e : w ≡ littleEndian 8 s) where
+  word-seven : w % 2 ^ 56 ≡ littleEndian 7 s
+  word-seven = ap (λ (n : ℕ). n % 2 ^ 56) e ∙ word-low s g h
 
--- the answer: no byte is left, or one
-ended : (c : ℕ) (s : List ℕ) (i : ℕ) → length s ≤ i → crcOf c (drop i s) ≡ c
-ended c s i h = ap (crcOf c) (drop-of-length-le s h)
+  low-seven : bitXor v w % 2 ^ 56 ≡ bitXor v (littleEndian 7 s) % 2 ^ 56
+  low-seven =
+      low-linear 56 v w ∙ ap (bitXor (v % 2 ^ 56)) (word-seven ∙ sym (mod-eq-of-lt (word-small 7 s g))) ∙ sym (low-linear 56 v (littleEndian 7 s))
 
-pub crc-end : (x c : ℕ) (s : List ℕ) (i : ℕ) → length s ≤ i → SoFar x c (drop i s) → c ≡ x
-crc-end x c s i h p = sym (ended c s i h) ∙ p .goes
+  high-seven : bitXor v (littleEndian 7 s) / 2 ^ 56 ≡ v / 2 ^ 56
+  high-seven = right-linear 56 v (littleEndian 7 s) ∙ ap (bitXor (v / 2 ^ 56)) (div-eq-of-lt (word-small 7 s g)) ∙ xor-zero-r (v / 2 ^ 56)
 
-pub crc-last : (x c n : ℕ) (t s : List ℕ) (i : ℕ) → SoFar x c (drop i s) → t ≡ table → i < length s → length s - i ≤ 1
-    → n ≡ bitXor c (getD s i 0) % 256 → getD s i 0 < 256 → bitXor (c / 256) (getD t n 0) ≡ x
-crc-last x c n t s i p u h o e l =
-    rw (u, by-table c (getD s i 0) n l e) (sym (ended _ s (i + 1) (omega arith)) ∙ sym (crc-next c s i h) ∙ p .goes)
+  pub crc-seven : crcOf v s ≡ crcOf (bitXor (eights 7 (bitXor v w % 2 ^ 56)) (v / 2 ^ 56)) (drop 7 s)
+  crc-seven =
+      let n : ℕ = bitXor v (littleEndian 7 s) in
+      let parts : n ≡ bitXor (n % 2 ^ 56) (n / 2 ^ 56 * 2 ^ 56) =
+      sym (split n 56) ∙ sym (xor-shifted (n / 2 ^ 56) 56 (n % 2 ^ 56) (mod-lt n (lit< tt))) ∙ xor-comm (n / 2 ^ 56 * 2 ^ 56) (n % 2 ^ 56) in
+      crc-word 7 v s g h
+      ∙ ap (λ (x : ℕ). crcOf x (drop 7 s))
+      (ap (eights 7) parts ∙ eights-linear 7 (n % 2 ^ 56) (n / 2 ^ 56 * 2 ^ 56)
+      ∙ ap₂ (λ (x y : ℕ). bitXor (eights 7 x) y) (sym low-seven) (eights-high 7 (n / 2 ^ 56) ∙ high-seven))
+
+aside : (a b c : ℕ) → bitXor (bitXor a b) c ≡ bitXor (bitXor a c) b
+aside a b c = xor-assoc a b c ∙ ap (bitXor a) (xor-comm b c) ∙ sym (xor-assoc a c b)
+
+seven-step : (v w : ℕ) (s : List ℕ) → Bytes s → 15 ≤ length s → w ≡ littleEndian 8 s
+    → let low = bitXor v w % 2 ^ 56 in crcOf v s ≡ bitXor (crcOf (bitXor (bitXor low (low * 16)) (v / 2 ^ 56)) (drop 7 s)) (factor low)
+seven-step v w s g h e =
+    let low : ℕ = bitXor v w % 2 ^ 56 in
+    let high : ℕ = v / 2 ^ 56 in
+    let u : ℕ = bitXor low (low * 16) in
+    let left : 8 ≤ length (drop 7 s) = rw (length-drop 7 s) (omega arith) in
+    crc-seven v w s g (omega arith) e
+    ∙ same-but (bitXor (eights 7 low) high) (bitXor u high) low (drop 7 s) left
+    (eights-linear 8 (eights 7 low) high
+    ∙ ap (λ (x : ℕ). bitXor x (eights 8 high)) (sym (eights-add 7 8 low) ∙ sym (seven-law low (mod-lt (bitXor v w) (lit< tt))))
+    ∙ aside (eights 8 u) (factor low) (eights 8 high) ∙ ap (λ (x : ℕ). bitXor x (factor low)) (sym (eights-linear 8 u high)))
+
+-- the value so far: it fits, and with the second factor, where that is lacking, the check value from it of the bytes that are left is the whole
+pub record SoFar (whole v lacks : ℕ) (left : List ℕ) : Type 0 where
+  pub fits : v < 2 ^ 64
+  pub lacks-fits : lacks < 2 ^ 64
+  pub goes : bitXor (crcOf v left) (factor lacks) ≡ whole
+
+pub from-start : (c : ℕ) (s : List ℕ) → c < 65536 → SoFar (crcOf c s) c 0 s
+unfolding factor parityOf
+from-start c s h = record { fits = omega arith; lacks-fits = lit< tt; goes = xor-zero-r (crcOf c s) }
+
+pub from-turn : (whole v lacks w : ℕ) (s : List ℕ) (i : ℕ) → Bytes s → 15 ≤ length s - i → w ≡ littleEndian 8 (drop i s)
+    → SoFar whole v lacks (drop i s)
+    → let low = bitXor v w % 72057594037927936 in
+    SoFar whole (bitXor (bitXor low (low * 16)) (v / 72057594037927936)) (bitXor lacks low) (drop (i + 7) s)
+from-turn whole v lacks w s i g h e p =
+    let low : ℕ = bitXor v w % 72057594037927936 in
+    let high : ℕ = v / 72057594037927936 in
+    let l : low < 2 ^ 56 = mod-lt (bitXor v w) (lit< tt) in
+    let x : ℕ = crcOf (bitXor (bitXor low (low * 16)) high) (drop (i + 7) s) in
+    let step : crcOf v (drop i s) ≡ bitXor x (factor low) =
+    rw (← drop-drop 7 i s) (seven-step v w (drop i s) (bytes-drop i s g) (rw (length-drop i s) h) e) in
+    record {
+      fits =
+          xor-lt 64 (bitXor low (low * 16)) high (xor-lt 64 low (low * 16) (omega arith) (omega arith)) (omega (arith, p .fits));
+      lacks-fits = xor-lt 64 lacks low (p .lacks-fits) (omega arith);
+      goes =
+          ap (bitXor x) (factor-linear lacks low ∙ xor-comm (factor lacks) (factor low)) ∙ sym (xor-assoc x (factor low) (factor lacks))
+          ∙ ap (λ (y : ℕ). bitXor y (factor lacks)) (sym step) ∙ p .goes;
+    }
+
+-- eight bytes and the rest
+pub from-done : (whole v lacks w c x : ℕ) (s : List ℕ) (i : ℕ) → Bytes s → i + 8 ≤ length s → w ≡ littleEndian 8 (drop i s)
+    → SoFar whole v lacks (drop i s) → c ≡ bitXor (crcOf (bitXor v w) (replicate 8 0)) (ones lacks % 2 * 0xC001)
+    → x ≡ crcOf c (take (length s - (i + 8)) (drop (i + 8) s)) → x ≡ whole
+from-done whole v lacks w c x s i g h e p q r =
+    let t : List ℕ = drop (i + 8) s in
+    let f : ℕ = ones lacks % 2 * 0xC001 in
+    let taken : crcOf v (drop i s) ≡ crcOf (eights 8 (bitXor v w)) t =
+    rw (e, ← drop-drop 8 i s) (crc-word 8 v (drop i s) (bytes-drop i s g) (rw (length-drop i s) (omega arith))) in
+    r ∙ ap₂ crcOf (q ∙ ap (λ (y : ℕ). bitXor y f) (crc-zeros (bitXor v w))) (rest s (i + 8))
+    ∙ crc-xor (eights 8 (bitXor v w)) f t
+    ∙ ap₂ bitXor (sym taken) (factor-stays (length t) (ones lacks % 2) (mod-lt (ones lacks) (lit< tt)) ∙ ones-factor lacks (p .lacks-fits))
+    ∙ p .goes
