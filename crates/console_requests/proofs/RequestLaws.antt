@@ -3,25 +3,22 @@ use mathlib.Core.Path.{_≡_, sym, ap, _∙_}
 use mathlib.Core.List.{List, _++_, append-assoc}
 use Prim.Native.Nat.{ℕ, _+_, _≤_, _<_}
 use native.Mathlib.Omega.{arith}
-use lib.Dec.{leb}
 use lib.ListN.{length, take, drop, length-append}
-use lib.Seq.{take-at, length-take-le, take-append-seam}
+use lib.Seq.{take-at, length-take-le}
 use borrow.Author.Tests.{le-leb, lt-leb}
 use Rattle.byte_strings.specs.Wrote.{Wrote}
 use Rattle.byte_strings.proofs.Writes.{then, take-start}
 use Rattle.message_frames.specs.Frames.{ending, framed}
-use Rattle.row_types.specs.Places.{slotRows}
-use Rattle.row_types.specs.RowReplies.{InSomeSequence}
 use Rattle.row_types.specs.declared.Tables.{Tables}
-use Rattle.row_types.specs.declared.Supplement.{Supplement}
 use Rattle.engine.specs.Answers.{Answer, response, answerOf, bufferAfter}
-use Rattle.engine.specs.Calls.{callIn, Responded, tablesAfter}
-use Rattle.engine.specs.declared.Outcome.{Outcome}
+use Rattle.engine.specs.Calls.{callIn, tablesAfter}
+use Rattle.entry_numbers.specs.Replies.{Replies}
+use Rattle.entry_numbers.specs.declared.Reply.{Reply}
 use Rattle.console_octets.specs.Octets.{octetsOf}
 use Rattle.console_state.specs.State.{withTables}
 use Rattle.console_state.specs.declared.Console.{Console}
-use Rattle.console_outcomes.specs.Outcomes.{outcomeLine}
-use Rattle.console_requests.specs.Requests.{room, answeredBy, SaysAnswer}
+use Rattle.console_answers.specs.Answers.{answerLine}
+use Rattle.console_requests.specs.Requests.{room, answeredBy, outcomeLine, SaysAnswer}
 
 -- room
 module _ (c : Console) where
@@ -59,26 +56,23 @@ whole response before r n m p =
     ap (take m) (append-assoc response (drop (length response) before) (drop n r))
     ∙ take-at response (drop (length response) before ++ drop n r) m (sym p)
 
--- hand_in: o, m and t are the answer's outcome, length and tables
-module _ (c : Console) (q r e : List ℕ) (n : ℕ) (z : 2048 ≡ length r) (h : n ≤ 2048) (k : n ≡ room c) where
+-- hand_in: y is the reply, t the tables after it
+module _ (c : Console) (q r e : List ℕ) (n : ℕ) (y : Reply) (t : Tables) (p : Replies (c .tables) (answerOf (callIn (c .tables) (c .supplement) q (length (take n r)))) (take n r) e y t) (z : 2048 ≡ length r) (h : n ≤ 2048) (k : n ≡ room c) where
   lent : length (take n r) ≡ room c
   lent = sym (part r n z h) ∙ k
 
   abbrev given : Answer
   given = answerOf (callIn (c .tables) (c .supplement) q (length (take n r)))
 
-  pub next-state : (t : Tables) (d : Console) → t ≡ tablesAfter (c .tables) given → d ≡ withTables t c → d ≡ answeredBy c q
-  next-state t d p w = w ∙ ap (λ (u : Tables). withTables u c) (p ∙ ap (λ (j : ℕ). tablesAfter (c .tables) (answerOf (callIn (c .tables) (c .supplement) q j))) lent)
+  pub next-state : (d : Console) → d ≡ withTables t c → d ≡ answeredBy c q
+  next-state d w = w ∙ ap (λ (u : Tables). withTables u c) (p .tables-are ∙ ap (λ (j : ℕ). tablesAfter (c .tables) (answerOf (callIn (c .tables) (c .supplement) q j))) lent)
 
-  pub answer-said : (o : Outcome) (m number : ℕ) (a b : List ℕ) (i : ℕ)
-      → o ≡ given .outcome
-      → Responded (c .tables) given (take n r) m e
-      → Wrote a 0 (outcomeLine number o (take m (e ++ drop n r))) b i
-      → SaysAnswer c number q a b i
-  answer-said o m number a b i p (names, (perm, (l, s))) w =
+  pub answer-said : (number : ℕ) (a b : List ℕ) (i : ℕ) → Wrote a 0 (answerLine number (y .outcome) (y .state) (take (y .length) (e ++ drop n r))) b i → SaysAnswer c number q a b i
+  answer-said number a b i w =
+      let names = p .written .0 in
       let v : Wrote a 0 (outcomeLine number (given .outcome) (response given names)) b i =
-      rw (← p, ← whole (response given names) (take n r) r n m l, ← s) w in
-      (names, (perm, rw (← lent) v))
+      rw (← p .outcome-is, ← p .state-is, ← whole (response given names) (take n r) r n (y .length) (p .written .1 .1 .0), ← p .written .1 .1 .1) w in
+      (names, (p .written .1 .0, rw (← lent) v))
 
 -- send: a text in 2,048 bytes, closed
 module _ (r d e text : List ℕ) (n m : ℕ) (z : 2048 ≡ length r) (h : length text ≤ 2043) (w : Wrote r 0 text d n) (v : Wrote d n (ending (take n d)) e m) (g : m ≡ n + 5) where

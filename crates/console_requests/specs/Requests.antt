@@ -8,9 +8,12 @@ use Rattle.row_types.specs.Places.{slotRows}
 use Rattle.row_types.specs.RowReplies.{InSomeSequence}
 use Rattle.engine.specs.Answers.{Answer, response, answerOf}
 use Rattle.engine.specs.Calls.{callIn, tablesAfter}
+use Rattle.engine.specs.Outcomes.{outcomeNumber}
+use Rattle.engine.specs.declared.Outcome.{Outcome}
+use Rattle.entry_numbers.specs.Numbers.{stateByte}
 use Rattle.console_state.specs.State.{withTables}
 use Rattle.console_state.specs.declared.Console.{Console}
-use Rattle.console_outcomes.specs.Outcomes.{outcomeLine}
+use Rattle.console_answers.specs.Answers.{answerLine}
 
 -- how many bytes of response buffer are lent; `buffer` sets at most 2,048
 unfoldable pub room : Console → ℕ
@@ -23,6 +26,10 @@ answerBy c request = answerOf (callIn (c .tables) (c .supplement) request (room 
 -- the state after a request
 abbrev pub answeredBy : Console → List ℕ → Console
 answeredBy c request = withTables (tablesAfter (c .tables) (answerBy c request)) c
+
+-- line number, outcome, slot state left (255, which is that of no state, is printed as -), response
+abbrev pub outcomeLine : ℕ → Outcome → List ℕ → List ℕ
+outcomeLine n o r = answerLine n (outcomeNumber o) (stateByte o) r
 
 -- the line of a request's answer is printed; SM?GL's list is in some sequence
 abbrev pub SaysAnswer : Console → ℕ → List ℕ → List ℕ → List ℕ → ℕ → Type 0

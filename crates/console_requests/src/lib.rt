@@ -1,5 +1,7 @@
-// A request that the console hands in (docs/CONSOLE.md), as text or as octets, and the line of its answer.
+// A request that the console hands in (docs/CONSOLE.md), as text or as octets, to the function that the library answers
+// with; and the line of its answer.
 use console_state::Console;
+use row_types::Tables;
 ghost use mathlib.Core.Path.{_≡_};
 ghost use Prim.Native.Nat.{_≤_};
 ghost use lib.ListN.{length};
@@ -41,16 +43,30 @@ fn hand_in(console: Console, number: u64, request: &[u8], out: &mut [u8]) -> Ste
 {
     let mut response = dots();
     let n = room(console);
-    let a = entry_core::handle(
-        console.tables,
+    let tables = console.tables;
+    let slots = tables.slots;
+    let registers = tables.registers;
+    let a = entry_numbers::answer(
+        slots,
+        tables.slot_count,
+        registers,
+        tables.register_count,
         console.supplement,
         request,
         &mut response[..n],
     );
-    let m = a.length;
-    let o = a.outcome;
-    let length = console_outcomes::put_outcome(out, number, o, &response[..m]);
-    let after = console_state::with_tables(console, a.tables);
+    let r = a.reply;
+    let m = r.length;
+    let length = console_answers::put_answer(out, number, r.outcome, r.state, &response[..m]);
+    let slots_after = a.slots;
+    let registers_after = a.registers;
+    let left = Tables {
+        slots: slots_after,
+        registers: registers_after,
+        slot_count: tables.slot_count,
+        register_count: tables.register_count,
+    };
+    let after = console_state::with_tables(console, left);
     Stepped {
         console: after,
         length,

@@ -3,9 +3,9 @@ use mathlib.Core.Path.{_≡_, refl, sym, ap, _∙_}
 use mathlib.Core.Bool.{Bool, true, false, not}
 use mathlib.Core.List.{List}
 use mathlib.Core.Option.{none}
-use Prim.Native.Nat.{ℕ, _≤_, _<_}
+use Prim.Native.Nat.{ℕ}
 use lib.ListN.{take}
-use borrow.Author.Tests.{le-leb, lt-leb, not-true, not-false}
+use borrow.Author.Tests.{not-true, not-false}
 use Rattle.field_values.specs.Values.{valuesOf}
 use Rattle.message_frames.specs.Frames.{isWhole, isChecked, headerOf, payloadOf}
 use Rattle.message_commands.specs.Commands.{commandOf}
@@ -17,6 +17,8 @@ use Rattle.row_types.specs.declared.SlotRow.{SlotRow}
 use Rattle.row_types.specs.declared.RegisterRow.{RegisterRow}
 use Rattle.row_index.specs.Found.{AreKeys}
 use Rattle.row_index.specs.Lent.{tablesWith}
+use Rattle.decide_counts.specs.First.{firstRefusal}
+use Rattle.decide_counts.proofs.CountLaws.{counts-no, counts-yes, room-no, room-yes}
 use Rattle.engine.specs.Requests.{isOneOfTen}
 use Rattle.engine.specs.Questions.{Call, areCounts, tableQuestions, messageQuestions, firstNo}
 use Rattle.engine.specs.Calls.{callIn}
@@ -34,28 +36,31 @@ pub is-one-of-ten : (c : Command) (b : Bool) → b ≡ isOneOfTen c → not b �
 is-one-of-ten c b p o = sym p ∙ not-false b o
 
 -- decide: R are places of registers of which question 3 was answered
-module _ (slots : List SlotRow) (n m : ℕ) (x : Supplement) (q : List ℕ) (room : ℕ) (R : List RegisterRow) (a : Bool) (p : a ≡ areCounts n m) where
+module _ (slots : List SlotRow) (n m : ℕ) (x : Supplement) (q : List ℕ) (room : ℕ) (R : List RegisterRow) (first : ℕ) (p : first ≡ firstRefusal n m room) where
   abbrev call : Call
   call = callIn (tablesWith slots n R m) x q room
 
-  pub counts-refused : not a ≡ true → Refuse RowCounts ≡ decisionOf call
-  counts-refused o = tables-refused call RowCounts (rw (← p, not-true a o))
+  pub counts-refused : first ≡ 1 → Refuse RowCounts ≡ decisionOf call
+  counts-refused o = tables-refused call RowCounts (rw (counts-no n m room first p o))
 
-  module _ (o : not a ≡ false) where
-    pub room-refused : room < 1024 → Refuse ShortBuffer ≡ decisionOf call
-    room-refused h = tables-refused call ShortBuffer (rw (← p, not-false a o, lt-leb 1024 room h))
+  module _ (o : first ≡ 1 → ⊥) where
+    counted : areCounts n m ≡ true
+    counted = counts-yes n m room first p o
 
-    module _ (h : 1024 ≤ room) (sound : Bool) (r : sound ≡ areSound (take n slots) (take m R)) where
+    pub room-refused : first ≡ 2 → Refuse ShortBuffer ≡ decisionOf call
+    room-refused h = tables-refused call ShortBuffer (rw (counted, room-no n m room first p o h))
+
+    module _ (h : first ≡ 2 → ⊥) (sound : Bool) (r : sound ≡ areSound (take n slots) (take m R)) where
       pub rows-refused : not sound ≡ true → Refuse UnsoundRows ≡ decisionOf call
-      rows-refused i = tables-refused call UnsoundRows (rw (← p, not-false a o, le-leb 1024 room h, ← r, not-true sound i))
+      rows-refused i = tables-refused call UnsoundRows (rw (counted, room-yes n m room first p o h, ← r, not-true sound i))
 
       module _ (i : not sound ≡ false) (c : Bool) (s : c ≡ isWellFormed x) where
         pub supplement-refused : not c ≡ true → Refuse BadSupplement ≡ decisionOf call
-        supplement-refused j = tables-refused call BadSupplement (rw (← p, not-false a o, le-leb 1024 room h, ← r, not-false sound i, ← s, not-true c j))
+        supplement-refused j = tables-refused call BadSupplement (rw (counted, room-yes n m room first p o h, ← r, not-false sound i, ← s, not-true c j))
 
         module _ (j : not c ≡ false) (d : Bool) (u : d ≡ isWhole q) where
           tables-right : firstNo (tableQuestions call) ≡ none
-          tables-right = rw (← p, not-false a o, le-leb 1024 room h, ← r, not-false sound i, ← s, not-false c j)
+          tables-right = rw (counted, room-yes n m room first p o h, ← r, not-false sound i, ← s, not-false c j)
 
           pub frame-refused : not d ≡ true → Refuse BadFrame ≡ decisionOf call
           frame-refused k = message-refused call tables-right BadFrame (rw (← u, not-true d k))

@@ -53,10 +53,11 @@ pub fn decide(
         → d ≡ decisionOf (callIn (tablesWith slots «slot_count» R «register_count»)
         supplement (now (request .entry)) room)) ⌝ }
 {
-    if !decide_counts::are_counts(slot_count, register_count) {
+    let first = decide_counts::first_refusal(slot_count, register_count, room);
+    if first == 1 {
         return Decision::Refuse(Refusal::RowCounts);
     }
-    if room < 1024 {
+    if first == 2 {
         return Decision::Refuse(Refusal::ShortBuffer);
     }
     if !sound {

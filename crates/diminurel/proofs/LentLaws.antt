@@ -1,10 +1,13 @@
--- Over lent rows of any number the tables by value are answered as the rows themselves: where the counts are in range the rows in the tables are the lent ones, and where they are not all is refused with 1, and every row stays.
+-- Lent rows of any number are answered as is promised. Questions 1 and 2 refuse before a row is loaded, and every row stays; where they do not, the counts are in range, so that the rows in the tables by value are the lent ones:
+-- what is promised over the tables is promised over the rows, where they are stored back, and where a refusal stores none.
 use mathlib.Core.Path.{_≡_, refl, sym, ap, subst, _∙_}
-use mathlib.Core.Bool.{Bool, true, false}
+use mathlib.Core.Bool.{Bool, true, false, not}
 use mathlib.Core.List.{List, [], Perm·refl}
-use Prim.Native.Nat.{ℕ, _≤_}
+use mathlib.Core.Option.{some}
+use Prim.Native.Nat.{ℕ, _≤_, zero-le}
 use native.Mathlib.Omega.{arith}
-use lib.ListN.{length, take-append-drop}
+use lib.Dec.{T, T-not, eqb, leb}
+use lib.ListN.{length}
 use lib.Seq.{take-length}
 use Rattle.row_types.specs.Places.{slotRows, registerRows}
 use Rattle.row_types.specs.RowReplies.{slotNames}
@@ -12,18 +15,29 @@ use Rattle.row_types.specs.declared.SlotRow.{SlotRow}
 use Rattle.row_types.specs.declared.RegisterRow.{RegisterRow}
 use Rattle.row_types.specs.declared.Supplement.{Supplement}
 use Rattle.row_types.specs.declared.Tables.{Tables}
+use Rattle.row_index.specs.Lent.{tablesWith}
+use Rattle.decide_counts.specs.First.{firstRefusal}
 use Rattle.decide_counts.proofs.CountLaws.{slots-few, registers-few}
-use Rattle.engine.specs.Questions.{Call, areCounts, questions}
-use Rattle.engine.specs.Answers.{Answer, refused, answerOf}
-use Rattle.engine.specs.Calls.{callIn, Responded, tablesAfter}
+use Rattle.engine.specs.Refusals.{refusal}
+use Rattle.engine.specs.Questions.{Call, areCounts, questions, firstNo}
+use Rattle.engine.specs.Answers.{response, responseOf, bufferAfter, answerOf}
+use Rattle.engine.specs.Calls.{callIn}
+use Rattle.engine.specs.Outcomes.{outcomeNumber}
 use Rattle.engine.specs.Usable.{isUsable}
-use Rattle.engine.specs.declared.Refusal.the-variants.{RowCounts}
+use Rattle.engine.specs.Words.{Lent, callOf}
+use Rattle.engine.specs.declared.Refusal.{Refusal}
+use Rattle.engine.specs.declared.Refusal.the-variants.{RowCounts, ShortBuffer}
+use Rattle.engine.specs.declared.Outcome.{Outcome}
+use Rattle.engine.specs.declared.Outcome.the-variants.{Accepted, Done, Refused}
+use Rattle.engine.proofs.AnswerLaws.{IsUnwritten, first-no-decides, refused-keeps, no-reply-exactly}
 use Rattle.engine.proofs.Counted.{counted}
 use Rattle.row_lending.specs.Tables.{overlay, freeSlots, freeRegisters, slotTable, registerTable}
-use Rattle.row_lending.proofs.OverlayLaws.{overlay-front, overlay-others, overlay-back}
-use Rattle.entry_numbers.specs.Joined.{joined}
-use Rattle.engine.specs.Words.{callOf}
+use Rattle.row_lending.proofs.OverlayLaws.{overlay-front, overlay-others}
+use Rattle.entry_numbers.specs.Numbers.{stateByte}
+use Rattle.entry_numbers.specs.Replies.{Replies}
+use Rattle.entry_numbers.specs.declared.Reply.{Reply}
 use Rattle.diminurel.specs.Lent.{LentResponded, lentTables}
+use Rattle.diminurel.specs.Handles.{Run, Handles}
 
 -- 8 and 32 places
 slot-places : length freeSlots ≡ 8
@@ -34,11 +48,15 @@ register-places : length freeRegisters ≡ 32
 unfolding freeRegisters
 register-places = refl
 
--- ys and zs are the lent rows, t the tables that they are taken into
+-- ys and zs are the lent rows, and `loaded` the tables that they are loaded into
 module _ (ys : List SlotRow) (zs : List RegisterRow) where
-  abbrev t : Tables
-  t = joined (slotTable ys) (registerTable zs)
+  abbrev pub loaded : Tables
+  loaded = tablesWith (slotTable ys) (length ys) (registerTable zs) (length zs)
 
+  abbrev rows : Lent
+  rows = record { slots = ys; registers = zs }
+
+  -- counts in range: the rows in the tables are the lent ones
   module _ (e : areCounts (length ys) (length zs) ≡ true) where
     room-for-slots : length ys ≤ length freeSlots
     room-for-slots = omega (arith, slots-few (length ys) (length zs) e, slot-places)
@@ -46,70 +64,103 @@ module _ (ys : List SlotRow) (zs : List RegisterRow) where
     room-for-registers : length zs ≤ length freeRegisters
     room-for-registers = omega (arith, registers-few (length ys) (length zs) e, register-places)
 
-    slots-same : slotRows t ≡ ys
+    slots-same : slotRows loaded ≡ ys
     slots-same = overlay-front ys freeSlots room-for-slots
 
-    registers-same : registerRows t ≡ zs
+    registers-same : registerRows loaded ≡ zs
     registers-same = overlay-front zs freeRegisters room-for-registers
 
+  -- a call over them, and a reply r to it with the buffer afterwards
   module _ (x : Supplement) (q b : List ℕ) where
-    abbrev inTables : Call
-    inTables = callIn t x q (length b)
-
     abbrev lent : Call
-    lent = callOf (record { slots = ys; registers = zs }) (record { request = q; supplement = x; buffer = b; sequence = [] })
+    lent = callOf rows (record { request = q; supplement = x; buffer = b; sequence = [] })
 
-    -- what is ensured: the outcome, the response in some sequence of the slots, and the rows
-    pub record Same : Type 0 where
-      pub outcome : answerOf inTables .outcome ≡ answerOf lent .outcome
-      pub written : (n : ℕ) (after : List ℕ) → Responded t (answerOf inTables) b n after → LentResponded ys (answerOf lent) b n after
-      pub slots : overlay (tablesAfter t (answerOf inTables) .slots) ys ≡ answerOf lent .slots
-      pub registers : overlay (tablesAfter t (answerOf inTables) .registers) zs ≡ answerOf lent .registers
+    abbrev run : Reply → List ℕ → Run
+    run r after = record { request = q; supplement = x; before = b; after = after; outcome = r .outcome; state = r .state; size = r .length }
 
-    -- counts in range: the calls are one
-    module _ (e : areCounts (length ys) (length zs) ≡ true) where
-      same-call : inTables ≡ lent
-      same-call = λ j. record { slots = slots-same e j; registers = registers-same e j; slotCount = length ys; registerCount = length zs; room = length b; supplement = x; request = q }
+    abbrev f : ℕ
+    f = firstRefusal (length ys) (length zs) (length b)
 
-      in-range : Same
-      in-range = record {
-        outcome = ap (λ (c : Call). answerOf c .outcome) same-call;
-        written = λ n after h. subst (λ (c : Call). LentResponded (c .slots) (answerOf c) b n after) same-call h;
-        slots = overlay-others ys freeSlots (room-for-slots e) (answerOf inTables .slots) _ (counted inTables .0 ∙ ap length (slots-same e)) ∙ ap (λ (c : Call). answerOf c .slots) same-call;
-        registers = overlay-others zs freeRegisters (room-for-registers e) (answerOf inTables .registers) _ (counted inTables .1 ∙ ap length (registers-same e)) ∙ ap (λ (c : Call). answerOf c .registers) same-call;
-      }
+    -- questions 1 and 2 refuse before a row is loaded: nothing is written, and every row stays
+    abbrev first : Reply
+    first = record { outcome = f; state = 255; length = 0 }
 
-    -- counts out of range: both are refused with 1
-    module _ (o : areCounts (length ys) (length zs) ≡ false) where
-      refused-in : answerOf inTables ≡ refused inTables RowCounts
-      unfolding answerOf questions
-      refused-in = rw o refl
+    refused-with : (y : Refusal) → firstNo (questions lent) ≡ some y → f ≡ refusal y .number → IsUnwritten (refusal y .number) → Handles rows (run first b) rows
+    refused-with y e z u =
+        let o : answerOf lent .outcome ≡ Refused y = first-no-decides lent y e in
+        let keeps = refused-keeps lent y o in
+        let nothing : response (answerOf lent) (slotNames ys) ≡ [] = ap responseOf (no-reply-exactly lent (slotNames ys) .1 (subst IsUnwritten (sym (ap outcomeNumber o)) u)) in
+        record {
+          outcome-is = z ∙ sym (ap outcomeNumber o);
+          state-is = sym (ap stateByte o);
+          written = (slotNames ys, (Perm·refl (slotNames ys), (sym (ap length nothing), sym (ap (λ (s : List ℕ). bufferAfter s b) nothing))));
+          fits = zero-le;
+          slots-are = sym (keeps .0);
+          registers-are = sym (keeps .1);
+        }
 
-      refused-lent : answerOf lent ≡ refused lent RowCounts
-      unfolding answerOf questions
-      refused-lent = rw o refl
-
-      out-of-range : Same
-      unfolding refused
-      out-of-range = record {
-        outcome = ap (λ (a : Answer). a .outcome) refused-in ∙ sym (ap (λ (a : Answer). a .outcome) refused-lent);
-        written = λ n after h. (slotNames ys, (Perm·refl (slotNames ys), rw refused-lent (rw refused-in at (h .1 .1))));
-        slots = rw (refused-in, refused-lent) (ap (λ (l : List SlotRow). overlay l ys) (take-append-drop (length ys) (overlay ys freeSlots)) ∙ overlay-back ys freeSlots);
-        registers = rw (refused-in, refused-lent) (ap (λ (l : List RegisterRow). overlay l zs) (take-append-drop (length zs) (overlay zs freeRegisters)) ∙ overlay-back zs freeRegisters);
-      }
-
-    pub same : Same
-    same = go (areCounts (length ys) (length zs)) refl
+    pub refused-first : T (not (eqb f 0)) → Handles rows (run first b) rows
+    unfolding questions
+    refused-first n = go (areCounts (length ys) (length zs)) (leb 1024 (length b)) refl refl
       where
-        go : (c : Bool) → areCounts (length ys) (length zs) ≡ c → Same
-        go true e = in-range e
-        go false o = out-of-range o
+        go : (c d : Bool) → areCounts (length ys) (length zs) ≡ c → leb 1024 (length b) ≡ d → Handles rows (run first b) rows
+        go true true e i = absurd (rw (e, i) at n)
+        go true false e i = refused-with ShortBuffer (rw (e, i) refl) (rw (e, i) refl) (omega arith, omega arith)
+        go false d e i = refused-with RowCounts (rw e refl) (rw e refl) (omega arith, omega arith)
+
+    -- else the counts are in range, and the calls over rows and tables are one
+    module _ (n : T (not (not (eqb f 0)))) where
+      in-range : areCounts (length ys) (length zs) ≡ true
+      in-range = go (areCounts (length ys) (length zs)) refl
+        where
+          go : (c : Bool) → areCounts (length ys) (length zs) ≡ c → c ≡ true
+          go true e = refl
+          go false e = absurd (rw e at n)
+
+      abbrev inTables : Call
+      inTables = callIn loaded x q (length b)
+
+      same-call : inTables ≡ lent
+      same-call = λ j. record { slots = slots-same in-range j; registers = registers-same in-range j; slotCount = length ys; registerCount = length zs; room = length b; supplement = x; request = q }
+
+      -- what is promised over the tables is promised over the rows,
+      module _ (r : Reply) (after : List ℕ) (left : Tables) (p : Replies loaded (answerOf inTables) b after r left) where
+        outcome-is : r .outcome ≡ outcomeNumber (answerOf lent .outcome)
+        outcome-is = p .outcome-is ∙ ap (λ (c : Call). outcomeNumber (answerOf c .outcome)) same-call
+
+        handles : (l : Lent) → l .slots ≡ answerOf lent .slots → l .registers ≡ answerOf lent .registers → Handles rows (run r after) l
+        handles l u v = record {
+          outcome-is = outcome-is;
+          state-is = p .state-is ∙ ap (λ (c : Call). stateByte (answerOf c .outcome)) same-call;
+          written = subst (λ (c : Call). LentResponded (c .slots) (answerOf c) b (r .length) after) same-call (p .written);
+          fits = p .fits;
+          slots-are = u;
+          registers-are = v;
+        }
+
+        -- where the tables are stored,
+        pub stored : Handles rows (run r after) (record { slots = overlay (left .slots) ys; registers = overlay (left .registers) zs })
+        stored = handles _
+            (ap (λ (u : Tables). overlay (u .slots) ys) (p .tables-are) ∙ overlay-others ys freeSlots (room-for-slots in-range) (answerOf inTables .slots) _ (counted inTables .0 ∙ ap length (slots-same in-range)) ∙ ap (λ (c : Call). answerOf c .slots) same-call)
+            (ap (λ (u : Tables). overlay (u .registers) zs) (p .tables-are) ∙ overlay-others zs freeRegisters (room-for-registers in-range) (answerOf inTables .registers) _ (counted inTables .1 ∙ ap length (registers-same in-range)) ∙ ap (λ (c : Call). answerOf c .registers) same-call)
+
+        -- and where a refusal stores none
+        pub kept : T (not (eqb (r .outcome) 0)) → Handles rows (run r after) rows
+        kept d = go (answerOf lent .outcome) refl
+          where
+            accepted : r .outcome ≡ 0 → ⊥
+            accepted z = T-not (eqb (r .outcome) 0) d (rw z tt)
+
+            go : (o : Outcome) → answerOf lent .outcome ≡ o → Handles rows (run r after) rows
+            go (Accepted a) w = absurd (accepted (outcome-is ∙ ap outcomeNumber w))
+            go Done w = absurd (accepted (outcome-is ∙ ap outcomeNumber w))
+            go (Refused y) w = let k = refused-keeps lent y w in handles rows (sym (k .0)) (sym (k .1))
 
   -- which key may vend is the same of both
-  pub same-usable : (n : ℕ) → isUsable t n ≡ isUsable (lentTables ys zs) n
+  pub same-usable : (n : ℕ) → isUsable loaded n ≡ isUsable (lentTables ys zs) n
   unfolding isUsable
   same-usable n = go (areCounts (length ys) (length zs)) refl
     where
-      go : (c : Bool) → areCounts (length ys) (length zs) ≡ c → isUsable t n ≡ isUsable (lentTables ys zs) n
+      go : (c : Bool) → areCounts (length ys) (length zs) ≡ c → isUsable loaded n ≡ isUsable (lentTables ys zs) n
       go true e = rw (slots-same e, registers-same e, take-length ys, take-length zs) refl
       go false o = rw o refl

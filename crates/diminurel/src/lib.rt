@@ -10,7 +10,7 @@ ghost use Rattle.entry_numbers.specs.Numbers.{yesByte};
 ghost use Rattle.diminurel.specs.Handles.{Handled};
 ghost use Rattle.diminurel.specs.Lent.{lentTables};
 
-// Handles a request.
+// Handles a request. Questions 1 and 2 are asked before a row is loaded, and a refusal stores none.
 #[no_mangle]
 pub extern "C" fn diminurel_handle(
     slots: &mut [SlotRow],
@@ -21,13 +21,26 @@ pub extern "C" fn diminurel_handle(
 ) -> Reply
     ensures { λ reply. ⌜ Handled slots registers supplement request response reply ⌝ }
 {
+    let first = decide_counts::first_refusal(slots.len(), registers.len(), response.len());
+    if first != 0 {
+        return Reply {
+            outcome: first,
+            state: 255,
+            length: 0,
+        };
+    }
     let a = entry_numbers::answer(
         row_lending::load_slots(slots),
+        slots.len(),
         row_lending::load_registers(registers),
+        registers.len(),
         supplement,
         request,
         response,
     );
+    if a.reply.outcome != 0 {
+        return a.reply;
+    }
     row_lending::store_slots(slots, a.slots);
     row_lending::store_registers(registers, a.registers);
     a.reply
@@ -44,7 +57,9 @@ pub extern "C" fn diminurel_usable(
 {
     entry_numbers::usable(
         row_lending::load_slots(slots),
+        slots.len(),
         row_lending::load_registers(registers),
+        registers.len(),
         register,
     )
 }

@@ -1,7 +1,7 @@
 -- From the decision on a call to its answer, as the code puts it together: d is the decision, p the payload.
-use mathlib.Core.Path.{_≡_, refl, sym, ap, subst, _∙_}
+use mathlib.Core.Path.{_≡_, refl, sym, ap, _∙_}
 use mathlib.Core.Bool.{true}
-use mathlib.Core.List.{List, Perm·refl, map}
+use mathlib.Core.List.{List, Perm·refl}
 use Prim.Native.Nat.{ℕ, _≤_}
 use lib.ListN.{length, take}
 use native.Mathlib.Omega.{arith}
@@ -16,8 +16,7 @@ use Rattle.row_types.specs.declared.Tables.{Tables}
 use Rattle.row_types.specs.declared.SlotRow.{SlotRow}
 use Rattle.row_types.specs.declared.RegisterRow.{RegisterRow}
 use Rattle.card_writer.specs.declared.Stored.{Stored}
-use Rattle.row_index.specs.Lent.{cardIn, rowsWith, tablesWith, tablesWithCards}
-use Rattle.row_index.proofs.LentLaws.{tables-again}
+use Rattle.row_index.specs.Lent.{tablesWith}
 use Rattle.engine.specs.Questions.{areCounts}
 use Rattle.engine.specs.Answers.{response, answerOf}
 use Rattle.engine.specs.Calls.{callIn, Responded, tablesAfter}
@@ -75,21 +74,3 @@ module _ (slots : List SlotRow) (n : ℕ) (R : List RegisterRow) (m : ℕ) (x : 
   responded p i l y a b k w h =
       let e′ : responseFor d (tablesWith slots n l m) x q ≡ response (answerOf (callIn t x q room)) (slotNames (slotRows t)) = rw y (same-response d slots n R m x (valuesOf p) q) ∙ response-is t x q room d (sym e) in
       (slotNames (slotRows t), (Perm·refl (slotNames (slotRows t)), (omega (arith, w .next) ∙ ap length e′, rw e′ at (from-start w (omega (arith, w .next))))))
-
--- handle: the tables with the cards of their rows are the tables
-module _ (t : Tables) (cards : List (List ℕ)) (w : cards ≡ map cardIn (t .registers)) (x : Supplement) (q : List ℕ) (room : ℕ) where
-  abbrev lent : Tables
-  lent = tablesWithCards (t .slots) (t .«slot_count») cards (t .«register_count»)
-
-  same-tables : lent ≡ t
-  same-tables = tables-again (t .slots) (t .«slot_count») (t .registers) (t .«register_count») cards w
-
-  pub outcome-lent : (o : Outcome) → o ≡ answerOf (callIn lent x q room) .outcome → o ≡ answerOf (callIn t x q room) .outcome
-  outcome-lent o v = v ∙ ap (λ (u : Tables). answerOf (callIn u x q room) .outcome) same-tables
-
-  pub responded-lent : (a b : List ℕ) (k : ℕ) → Responded lent (answerOf (callIn lent x q room)) a k b → Responded t (answerOf (callIn t x q room)) a k b
-  responded-lent a b k v = subst (λ (u : Tables). Responded u (answerOf (callIn u x q room)) a k b) same-tables v
-
-  pub rows-after : (s : List SlotRow) (c : List (List ℕ)) → tablesWithCards s (t .«slot_count») c (t .«register_count») ≡ tablesAfter lent (answerOf (callIn lent x q room))
-      → (l : List RegisterRow) → l ≡ rowsWith c → tablesWith s (t .«slot_count») l (t .«register_count») ≡ tablesAfter t (answerOf (callIn t x q room))
-  rows-after s c v l y = rw y (v ∙ ap (λ (u : Tables). tablesAfter u (answerOf (callIn u x q room))) same-tables)

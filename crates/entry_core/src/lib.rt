@@ -1,11 +1,10 @@
-// The engine over tables by value: a request, the tables, a response buffer and a supplement give an accepted answer or
-// a refusal (document 01). The cards of the register rows are lent inside: question 3 reads each once, and what it
-// finds serves the decision, the response and the change of the rows.
+// The engine over slot rows by value and lent cards: a request, the rows, a response buffer and a supplement give an
+// accepted answer or a refusal (document 01). Question 3 reads each card once, and what it finds serves the decision,
+// the response and the change of the rows.
 use engine::Outcome;
 use register_keys::Findings;
 use row_types::SlotRow;
 use row_types::Supplement;
-use row_types::Tables;
 ghost use mathlib.Core.Path.{_≡_};
 ghost use mathlib.Core.Bool.{true};
 ghost use lib.ListN.{length, take};
@@ -92,47 +91,5 @@ pub fn handle_cards(
         outcome,
         length,
         slots: after,
-    }
-}
-
-// How a request ended, how long its response is, and the tables after it.
-pub struct Answer {
-    pub outcome: Outcome,
-    pub length: usize,
-    pub tables: Tables,
-}
-
-// Handles a request. Every input is answered; the first `length` bytes of the buffer are the response, and those beyond
-// keep their value.
-pub fn handle(tables: Tables, supplement: Supplement, request: &[u8], response: &mut [u8]) -> Answer
-    ensures { λ a. ⌜ IsAnswered tables supplement request response (a .outcome) (a .length) (a .tables) ⌝ }
-{
-    let slots = tables.slots;
-    let registers = tables.registers;
-    let slot_count = tables.slot_count;
-    let register_count = tables.register_count;
-    let mut cards = register_tables::cards_of(registers);
-    let a = handle_cards(
-        slots,
-        slot_count,
-        &mut cards,
-        register_count,
-        supplement,
-        request,
-        response,
-    );
-    let outcome = a.outcome;
-    let slots_after = a.slots;
-    let registers_after = register_tables::rows_of(cards);
-    let after = Tables {
-        slots: slots_after,
-        registers: registers_after,
-        slot_count: slot_count,
-        register_count: register_count,
-    };
-    Answer {
-        outcome,
-        length: a.length,
-        tables: after,
     }
 }

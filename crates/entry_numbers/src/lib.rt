@@ -1,19 +1,17 @@
-// The two answers over tables by value, in numbers, for the entry points: what the core answers of a request, and which
-// key may vend. Numbers stand in place of enums (document 01, "Where an answer is an enum, a definition gives this
-// paper's number and values for each of its cases").
+// The two answers over tables by value, in numbers, for the library's entry points and the console: what the core
+// answers of a request, and which key may vend. Numbers stand in place of enums (document 01, "Where an answer is an
+// enum, a definition gives this paper's number and values for each of its cases").
 use engine::Outcome;
-use row_lending::RegisterTable;
-use row_lending::SlotTable;
+use row_types::RegisterRow;
+use row_types::SlotRow;
 use row_types::Supplement;
 use row_types::Tables;
 ghost use mathlib.Core.Path.{_≡_};
-ghost use Prim.Native.Nat.{_≤_};
-ghost use lib.ListN.{length};
-ghost use Rattle.engine.specs.Calls.{answerOver, Responded, tablesAfter};
-ghost use Rattle.engine.specs.Outcomes.{outcomeNumber};
+ghost use Rattle.row_index.specs.Lent.{tablesWith};
+ghost use Rattle.engine.specs.Calls.{answerOver};
 ghost use Rattle.engine.specs.Usable.{isUsable};
 ghost use Rattle.entry_numbers.specs.Numbers.{stateByte, yesByte};
-ghost use Rattle.entry_numbers.specs.Joined.{joined, slotsIn, registersIn};
+ghost use Rattle.entry_numbers.specs.Replies.{Replies};
 
 // The outcome's number, the slot state that the answer carries (255 where it carries none), and the length of the
 // response.
@@ -24,11 +22,11 @@ pub struct Reply {
     pub length: usize,
 }
 
-// A reply, and the tables after it.
+// A reply, and the rows after it.
 pub struct Answered {
     pub reply: Reply,
-    pub slots: SlotTable,
-    pub registers: RegisterTable,
+    pub slots: [SlotRow; 8],
+    pub registers: [RegisterRow; 32],
 }
 
 fn state_byte(outcome: Outcome) -> u8
@@ -41,51 +39,25 @@ fn state_byte(outcome: Outcome) -> u8
     }
 }
 
-// The tables of slots and of registers as one.
-fn join(slots: SlotTable, registers: RegisterTable) -> Tables
-    ensures { λ t. ⌜ t ≡ joined slots registers ⌝ }
-{
-    let slot_rows = slots.rows;
-    let register_rows = registers.rows;
-    Tables {
-        slots: slot_rows,
-        registers: register_rows,
-        slot_count: slots.count,
-        register_count: registers.count,
-    }
-}
-
-// Handles a request over tables by value; the cards are lent to the core from here, so that the rows are copied once in
-// and once out.
+// Handles a request over tables by value: places for 8 and 32 rows, of which the first slot_count and register_count
+// are the caller's. Every input is answered. The cards are lent to the core from here.
 pub fn answer(
-    slots: SlotTable,
-    registers: RegisterTable,
+    slots: [SlotRow; 8],
+    slot_count: usize,
+    registers: [RegisterRow; 32],
+    register_count: usize,
     supplement: Supplement,
     request: &[u8],
     response: &mut [u8],
 ) -> Answered
-    ensures { λ a. ⌜ a .reply .outcome
-        ≡ outcomeNumber (answerOver (joined slots registers) supplement request response .outcome) ⌝ }
-    ensures state { λ a. ⌜ a .reply .state
-        ≡ stateByte (answerOver (joined slots registers) supplement request response .outcome) ⌝ }
-    ensures written { λ a. ⌜ Responded (joined slots registers)
-        (answerOver (joined slots registers) supplement request response)
-        (now (response .entry)) (a .reply .length) (now (response .exit)) ⌝ }
-    ensures slots { λ a. ⌜ a .slots
-        ≡ slotsIn (tablesAfter (joined slots registers)
-        (answerOver (joined slots registers) supplement request response)) ⌝ }
-    ensures registers { λ a. ⌜ a .registers
-        ≡ registersIn (tablesAfter (joined slots registers)
-        (answerOver (joined slots registers) supplement request response)) ⌝ }
-    ensures fits { λ a. ⌜ a .reply .length ≤ length (now (response .entry)) ⌝ }
+    ensures { λ a. ⌜ Replies (tablesWith slots «slot_count» registers «register_count»)
+        (answerOver (tablesWith slots «slot_count» registers «register_count») supplement request response)
+        (now (response .entry)) (now (response .exit)) (a .reply)
+        (tablesWith (a .slots) «slot_count» (a .registers) «register_count») ⌝ }
 {
-    let slot_rows = slots.rows;
-    let register_rows = registers.rows;
-    let slot_count = slots.count;
-    let register_count = registers.count;
-    let mut cards = register_tables::cards_of(register_rows);
+    let mut cards = register_tables::cards_of(registers);
     let a = entry_core::handle_cards(
-        slot_rows,
+        slots,
         slot_count,
         &mut cards,
         register_count,
@@ -101,26 +73,31 @@ pub fn answer(
     };
     let slots_after = a.slots;
     let registers_after = register_tables::rows_of(cards);
-    let slot_table = SlotTable {
-        rows: slots_after,
-        count: slot_count,
-    };
-    let register_table = RegisterTable {
-        rows: registers_after,
-        count: register_count,
-    };
     Answered {
         reply,
-        slots: slot_table,
-        registers: register_table,
+        slots: slots_after,
+        registers: registers_after,
     }
 }
 
 // Whether the key in a register may vend, over tables by value.
-pub fn usable(slots: SlotTable, registers: RegisterTable, register: usize) -> u8
-    ensures { λ n. ⌜ n ≡ yesByte (isUsable (joined slots registers) register) ⌝ }
+pub fn usable(
+    slots: [SlotRow; 8],
+    slot_count: usize,
+    registers: [RegisterRow; 32],
+    register_count: usize,
+    register: usize,
+) -> u8
+    ensures { λ n. ⌜ n
+        ≡ yesByte (isUsable (tablesWith slots «slot_count» registers «register_count») register) ⌝ }
 {
-    if entry_usable::is_usable(join(slots, registers), register) {
+    let tables = Tables {
+        slots,
+        registers,
+        slot_count,
+        register_count,
+    };
+    if entry_usable::is_usable(tables, register) {
         return 1;
     }
     0

@@ -1,17 +1,16 @@
--- A table of rows that are free is the table of free rows.
+-- Rows that are free, as many as there are places.
 use mathlib.Core.Path.{_≡_, ap}
-use Prim.Native.Nat.{ℕ}
 use lib.ListN.{replicate}
 use Rattle.row_types.specs.Slots.{freeSlot}
 use Rattle.row_types.specs.Registers.{freeRegister}
 use Rattle.row_types.specs.declared.SlotRow.{SlotRow}
 use Rattle.row_types.specs.declared.RegisterRow.{RegisterRow}
-use Rattle.row_lending.specs.Tables.{freeSlots, freeRegisters, freeSlotTable, freeRegisterTable}
+use Rattle.row_lending.specs.Tables.{freeSlots, freeRegisters}
 
-pub slots-free : (r : SlotRow) → r ≡ freeSlot → (n : ℕ) → record { rows = replicate 8 r; count = n } ≡ freeSlotTable n
+pub slots-free : (r : SlotRow) → r ≡ freeSlot → replicate 8 r ≡ freeSlots
 unfolding freeSlots
-slots-free r e n = ap (λ (s : SlotRow). record { rows = replicate 8 s; count = n }) e
+slots-free r e = ap (replicate 8) e
 
-pub registers-free : (r : RegisterRow) → r ≡ freeRegister → (n : ℕ) → record { rows = replicate 32 r; count = n } ≡ freeRegisterTable n
+pub registers-free : (r : RegisterRow) → r ≡ freeRegister → replicate 32 r ≡ freeRegisters
 unfolding freeRegisters
-registers-free r e n = ap (λ (s : RegisterRow). record { rows = replicate 32 s; count = n }) e
+registers-free r e = ap (replicate 32) e

@@ -3,13 +3,13 @@
 --     loads        so it meets its contract
 -- The slice is looked into once, before the loop. The loop's state is its count i, and the table then has the rows `over .. i`: those from 0 to i are the lent ones. Assumes nothing.
 -- In a step the number of `value`, `look`, `init`, `store`, `forget` or `leave` is a place in the list of what there is (`Start`, `I`): a local takes two, the last local comes first, and what stands before the locals is listed where it changes.
-use Rattle.hand_proofs.proofs.Prelude.{_≡_, refl, sym, _∙_, ap, ℕ, suc, _<_, _≤_, _+_, _*_, _^_, min, zero-le, min-le-left, min-le-right, eq-or-lt-of-le, add-one, arith, ⊎-elim, Bool, [], _∷_, List, lit<, length, getD, URA, fullShare, Ty, named, imm, w64, tyInt, tyBool, tyPtr, tyRef, Val, vint, vptr, vbool, SProp, ent, emp, via, fst∗, id⊢, GName, Lft, Share, ftrue, flft, fat, fobor, Memory, Routine, Heap, Env, Wp, WpFn, Tables, afterSeq, afterBlock, afterTurn, atReturn, Atoms, Fun, fact, Given, Item, Sq, runs, anyQ, atRet, ‵, _⊛_, _$_, _∵_, !, qed, move, keep, drop, split, join, rewrite, fsplit, fjoin, suffices, frame, done, whole, sub, look-in, arr-parts, look, look-raw, store, init, forget, stop, hop, fld, from, load, lit, bin, of-opd, addr, and-then, no-more, assigns, assigns-last, land, first, blocks, loops, again, Below, stays, leaves-loop, exec, returns, enter, alloc1, alloc0, params1, pass1, pass0, free0, fmOf, WpFn-mono, owns, Is, shows, shares, pointee, uint-makes, uint-vals, uint-tells, usize, RefT, place-is, row, elem-out, elem-back, looks-slice, shuts-slice, sliceTy, sliceVal, slice-vals, ShrSlice, Room, shr-slice-tells, owned, nothing, onEntry, Meets, tripleOf, Contract, Triple, says, Stays, stay-dropped, walkOf, goes-dropped, Walks, ends-at, walked, walk-meets, yes, Param, shrSliceOf, plain, lt-ltb, le-ltb}
+use Rattle.hand_proofs.proofs.Prelude.{_≡_, refl, sym, _∙_, ap, ℕ, suc, _<_, _≤_, _+_, _*_, _^_, min, zero-le, min-le-left, min-le-right, eq-or-lt-of-le, add-one, arith, ⊎-elim, Bool, [], _∷_, List, lit<, length, getD, URA, fullShare, Ty, named, imm, w64, tyInt, tyBool, tyPtr, tyRef, Val, vint, vptr, vbool, SProp, ent, emp, via, fst∗, id⊢, GName, Lft, Share, ftrue, flft, fat, fobor, Memory, Routine, Heap, Env, Wp, WpFn, Tables, afterSeq, afterBlock, afterTurn, atReturn, Atoms, Fun, fact, Given, Item, Sq, runs, anyQ, atRet, ‵, _⊛_, _$_, _∵_, !, qed, move, keep, drop, split, join, rewrite, fsplit, fjoin, suffices, frame, done, whole, sub, look-in, arr-parts, look, look-raw, store, init, forget, stop, hop, fld, from, load, lit, bin, of-opd, addr, and-then, no-more, assigns, assigns-last, land, first, blocks, loops, again, Below, stays, leaves-loop, exec, returns, enter, alloc1, alloc0, params1, pass1, pass0, free0, fmOf, WpFn-mono, owns, Is, shows, shares, pointee, uint-makes, uint-vals, uint-tells, RefT, place-is, row, elem-out, elem-back, looks-slice, shuts-slice, sliceTy, sliceVal, slice-vals, ShrSlice, Room, shr-slice-tells, owned, nothing, onEntry, Meets, tripleOf, Contract, Triple, says, Stays, stay-dropped, walkOf, goes-dropped, Walks, ends-at, walked, walk-meets, yes, Param, shrSliceOf, plain, lt-ltb, le-ltb}
 use types.Kit as Kit
 use types.Part.{store-in}
-use mir.Syntax.{Fn, Name, Body, local, valueLocal, memorySlot, place, copy, int, rvOpd, op2, lt, mul, add, offset, unsigned, addrOf, field, deref, assign, seq, cond, skip, exit, call, block, loop, return, tyArray}
-use mir.Val.{vstruct, vcons, vnil, ofList}
-use prog.Memory.{align, up}
+use mir.Syntax.{Fn, Name, Body, local, valueLocal, memorySlot, place, copy, int, rvOpd, op2, lt, mul, add, offset, unsigned, addrOf, field, deref, assign, seq, cond, skip, exit, call, block, loop, return}
+use lib.Dec.{T, ltb}
 use denote.RattleType.{RattleType}
+use denote.Array.{arrayVal}
 use denote.Triple.Clauses.{Ended, Clauses, closing}
 use denote.Struct.Laws as LL
 use mathlib.Core.List.{_++_}
@@ -18,29 +18,29 @@ use Rattle.row_lending.proofs.Over.{over, as-many, over-all}
 use Rattle.hand_proofs.proofs.Walk.{unset, holds, value, calls-plain, leave, leave-room, down, down-wf}
 use Rattle.row_lending.proofs.Lends.{Load}
 use Rattle.row_lending.proofs.Elements.{elem}
-use Rattle.row_lending.proofs.TableTypes.{RowType, Row, lent, rowTy, rowSize, rowVal, rowVals, tableVal, Filled, TableType, table, tableTy, tableVals, table-tells, table-makes, table-typed, made-vals, made-filled, made-is, filled-long, filled-set, vals-long, vals-set}
+use Rattle.row_lending.proofs.TableTypes.{RowType, Row, lent, rowTy, rowSize, rowVal, rowVals, tableVal, Filled, table, tableTy, table-tells, table-makes, table-typed, filled-long, filled-set, vals-long, vals-set}
 use Rattle.row_lending.proofs.Turns.{PlacedContract, offset-fits, below, next-fits, falls}
 use Rattle.row_lending.proofs.placed as placed
 use Rattle.row_lending.proofs.placed.Symbol.{name as #placed}
 
--- `fn free(n: usize) -> B`
+-- `fn free() -> B`
 abbrev pub Free : (B : RattleType) → Ended
-Free B = record { signature = record { lifetimes = 0; outlives = []; params = plain (λ _. usize) ∷ []; result = plain (λ _. B) }; kept = (yes, tt) }
+Free B = record { signature = record { lifetimes = 0; outlives = []; params = []; result = plain (λ _. B) }; kept = tt }
 
--- it makes a table of the rows frees, and counts n
-module _ (ρ : RowType) (N : ℕ) (β : TableType ρ N) (frees : List (Row ρ)) {M : Type 1} (𝓤 : URA M) (H : Heap 𝓤) (A : Atoms 𝓤) where
-  abbrev freeClauses : Clauses 𝓤 (Free (table ρ N β))
-  freeClauses = λ κs a. record { ghost = Unit {0}; requires = λ _. emp 𝓤; ensures = λ _ r _. fact 𝓤 (r ≡ β .make frees (a .0)) }
+-- it makes a table of the rows frees
+module _ (ρ : RowType) (N : ℕ) (frees : List (Row ρ)) {M : Type 1} (𝓤 : URA M) (H : Heap 𝓤) (A : Atoms 𝓤) where
+  abbrev freeClauses : Clauses 𝓤 (Free (table ρ N))
+  freeClauses = λ κs a. record { ghost = Unit {0}; requires = λ _. emp 𝓤; ensures = λ _ r _. fact 𝓤 (r ≡ frees) }
 
   abbrev pub FreeContract : Contract 𝓤
-  FreeContract = tripleOf 𝓤 H A (Free (table ρ N β) .signature) (closing 𝓤 H A (Free (table ρ N β)) freeClauses)
+  FreeContract = tripleOf 𝓤 H A (Free (table ρ N) .signature) (closing 𝓤 H A (Free (table ρ N)) freeClauses)
 
-module _ (ρ : RowType) (N : ℕ) (β : TableType ρ N) (#free : Name) where
+module _ (ρ : RowType) (N : ℕ) (few : T (ltb N (2 ^ 64))) (#free : Name) where
   abbrev S₁ : Param 1
   S₁ = shrSliceOf (0 ∷ []) tt (plain (λ _. lent ρ))
 
   abbrev B : RattleType
-  B = table ρ N β
+  B = table ρ N
 
   abbrev T₀ : Ended
   T₀ = Load (lent ρ) B
@@ -50,9 +50,9 @@ module _ (ρ : RowType) (N : ℕ) (β : TableType ρ N) (#free : Name) where
   Ref = sliceTy (tyRef (named 0) imm (pointee (lent ρ .written)))
 
   abbrev Tab : Ty
-  Tab = tableTy ρ N β
+  Tab = tableTy ρ N
 
-  -- a turn: t.rows[i] = rs[i]; i += 1
+  -- a turn: t[i] = rs[i]; i += 1
   abbrev turn : Body
   turn =
       seq (assign (place 7 []) (op2 (lt unsigned) (copy (place 4 [])) (copy (place 2 []))))
@@ -61,7 +61,7 @@ module _ (ρ : RowType) (N : ℕ) (β : TableType ρ N) (#free : Name) where
       (seq (assign (place 9 []) (op2 offset (copy (place 1 (field 0 ∷ []))) (copy (place 8 []))))
       (seq (assign (place 10 []) (rvOpd (copy (place 9 (deref (rowTy ρ) ∷ [])))))
       (seq (assign (place 11 []) (op2 (mul unsigned) (copy (place 4 [])) (int w64 (rowSize ρ))))
-      (seq (assign (place 12 []) (addrOf (place 3 (field 0 ∷ []))))
+      (seq (assign (place 12 []) (addrOf (place 3 [])))
       (seq (assign (place 13 []) (op2 offset (copy (place 12 [])) (copy (place 11 []))))
       (seq (assign (place 13 (deref (rowTy ρ) ∷ [])) (rvOpd (copy (place 10 []))))
       (assign (place 4 []) (op2 (add unsigned) (copy (place 4 [])) (int w64 1)))))))))))
@@ -70,16 +70,15 @@ module _ (ρ : RowType) (N : ℕ) (β : TableType ρ N) (#free : Name) where
   abbrev after : Body
   after = seq (assign (place 0 []) (rvOpd (copy (place 3 [])))) return
 
-  -- before it: n = placed(rs.len(), N), t = free(rs.len()), i = 0
+  -- before it: n = placed(rs.len(), N), t = free(), i = 0
   abbrev body : Body
   body =
       seq (assign (place 5 []) (rvOpd (copy (place 1 (field 1 ∷ [])))))
       (seq (call #placed (copy (place 5 []) ∷ int w64 N ∷ []) (place 2 []))
-      (seq (assign (place 5 []) (rvOpd (copy (place 1 (field 1 ∷ [])))))
-      (seq (call #free (copy (place 5 []) ∷ []) (place 6 []))
+      (seq (call #free [] (place 6 []))
       (seq (assign (place 3 []) (rvOpd (copy (place 6 []))))
       (seq (assign (place 4 []) (rvOpd (int w64 0)))
-      (seq (block (loop turn)) after))))))
+      (seq (block (loop turn)) after)))))
 
   abbrev pub code : Fn
   code = record {
@@ -94,13 +93,13 @@ module _ (ρ : RowType) (N : ℕ) (β : TableType ρ N) (#free : Name) where
   abbrev stayed : Stays (T₀ .signature .params) (T₀ .kept)
   stayed = (stay-dropped S₁ yes, tt)
 
-  -- the rows that a free table has, and the table that is said to be loaded: the lent rows laid over them, and how many they are
-  module _ (frees : List (Row ρ)) (loaded : List (Row ρ) → β .Table) (told : (ys : List (Row ρ)) → β .make (overlay ys frees) (length ys) ≡ loaded ys) {M : Type 1} (𝓤 : URA M) (H : Heap 𝓤) (A : Atoms 𝓤) (W : Given 𝓤 H A) (mem : Memory → SProp 𝓤) (run : Routine → Fun 𝓤) where
+  -- the rows that a free table has, and those that are said to be loaded: the lent rows laid over them
+  module _ (frees : List (Row ρ)) (loaded : List (Row ρ) → List (Row ρ)) (told : (ys : List (Row ρ)) → overlay ys frees ≡ loaded ys) {M : Type 1} (𝓤 : URA M) (H : Heap 𝓤) (A : Atoms 𝓤) (W : Given 𝓤 H A) (mem : Memory → SProp 𝓤) (run : Routine → Fun 𝓤) where
     -- ---- the contract: what `load` ensures
     abbrev loadClauses : Clauses 𝓤 T₀
     loadClauses = λ κs a. record { ghost = Unit {0}; requires = λ _. emp 𝓤; ensures = λ _ r _. fact 𝓤 (r ≡ loaded (a .0 .now)) }
 
-    module _ (𝓣 : Tables 𝓤 H) (placed-known : Triple 𝓤 (𝓣 .C #placed) (PlacedContract 𝓤 H A mem run)) (free-known : Triple 𝓤 (𝓣 .C #free) (FreeContract ρ N β frees 𝓤 H A)) where
+    module _ (𝓣 : Tables 𝓤 H) (placed-known : Triple 𝓤 (𝓣 .C #placed) (PlacedContract 𝓤 H A mem run)) (free-known : Triple 𝓤 (𝓣 .C #free) (FreeContract ρ N frees 𝓤 H A)) where
       -- ---- a call: the rows ys lie at (b, o), lent for κ
       module _ (κ : Lft) (q : Share) (b o : ℕ) (γ : GName) (ys : List (Row ρ)) (room : Room (lent ρ) (length ys)) where
         abbrev n : ℕ
@@ -124,7 +123,7 @@ module _ (ρ : RowType) (N : ℕ) (β : TableType ρ N) (#free : Name) where
 
         -- the loop's states: of a turn it is known that the table is one of N rows
         abbrev X : Type 0
-        X = (i : ℕ) × ((i ≤ k) × Filled ρ N (rows i) n)
+        X = (i : ℕ) × ((i ≤ k) × Filled ρ N (rows i))
 
         abbrev _≺_ : X → X → Type 0
         _≺_ = down k (λ x. x .0)
@@ -133,18 +132,14 @@ module _ (ρ : RowType) (N : ℕ) (β : TableType ρ N) (#free : Name) where
           abbrev E : Env 𝓤 H
           E = (Tab, l₀) ∷ (Ref, l₁) ∷ (tyInt w64, l₂) ∷ (Tab, l₃) ∷ (tyInt w64, l₄) ∷ (tyInt w64, l₅) ∷ (Tab, l₆) ∷ (tyBool, l₇) ∷ (tyInt w64, l₈) ∷ (tyPtr, l₉) ∷ (rowTy ρ, l₁₀) ∷ (tyInt w64, l₁₁) ∷ (tyPtr, l₁₂) ∷ (tyPtr, l₁₃) ∷ []
 
-          -- where the table's rows begin in its local
-          abbrev off : ℕ
-          off = 0 + up (align (tyArray (rowTy ρ) N)) 0
-
           module _ (q′ : Share) where
             -- what there is before each turn: a share of the rows, what shuts the slice, and the locals, from the last
             abbrev I : X → List (Item 𝓤)
             I x = ‵ (row (lent ρ) q′ ys b o) ∷ ‵ (fobor κ q (arr-parts (shares (lent ρ)) n .part q′ ys b o))
                 ∷ unset tyPtr l₁₃ ++ unset tyPtr l₁₂ ++ unset (tyInt w64) l₁₁ ++ unset (rowTy ρ) l₁₀
-                ++ unset tyPtr l₉ ++ unset (tyInt w64) l₈ ++ unset tyBool l₇ ++ holds Tab l₆ (tableVal ρ frees n)
+                ++ unset tyPtr l₉ ++ unset (tyInt w64) l₈ ++ unset tyBool l₇ ++ holds Tab l₆ (tableVal ρ frees)
                 ++ holds (tyInt w64) l₅ (vint w64 n) ++ holds (tyInt w64) l₄ (vint w64 (x .0))
-                ++ holds Tab l₃ (tableVal ρ (rows (x .0)) n) ++ holds (tyInt w64) l₂ (vint w64 k)
+                ++ holds Tab l₃ (tableVal ρ (rows (x .0))) ++ holds (tyInt w64) l₂ (vint w64 k)
                 ++ holds Ref l₁ s ++ unset Tab l₀ ++ []
 
             -- what is to hold where the loop ends
@@ -152,7 +147,7 @@ module _ (ρ : RowType) (N : ℕ) (β : TableType ρ N) (#free : Name) where
             Left = anyQ (afterBlock 𝓤 H (afterSeq 𝓤 H (Wp 𝓤 H (𝓣 .C) (𝓣 .Λ) E after (atReturn 𝓤 H E Post)) (atReturn 𝓤 H E Post)))
 
             -- a turn that loads a row
-            more : (i : ℕ) (le : i ≤ k) (f : Filled ρ N (rows i) n) → i < k → Sq W (I (i, (le, f))) (runs (𝓣 .C) (𝓣 .Λ) E turn (anyQ (afterTurn 𝓤 H (Below 𝓤 H A _≺_ I (i, (le, f))) (Kit.post 𝓤 H Left))))
+            more : (i : ℕ) (le : i ≤ k) (f : Filled ρ N (rows i)) → i < k → Sq W (I (i, (le, f))) (runs (𝓣 .C) (𝓣 .Λ) E turn (anyQ (afterTurn 𝓤 H (Below 𝓤 H A _≺_ I (i, (le, f))) (Kit.post 𝓤 H Left))))
             unfolding afterTurn
             more i le f yet =
                 -- the test holds
@@ -166,20 +161,20 @@ module _ (ρ : RowType) (N : ℕ) (β : TableType ρ N) (#free : Name) where
                 -- [rs[i]; what it owns; the other rows; what shuts the slice; _13; …; _12; …; _11; …; _10; …; _9; …]: it is read, and put back
                 assigns ! (of-opd ! (load ! (from ! (hop ! (look ! 12 refl) (stop !))) (look-raw ! 0 refl))) (from ! (stop !)) (init ! 10 refl (LL.lawful (ρ .type) (ρ .laws) 𝓤 H A W .typed e _ is .0)) $
                 elem-back ! (lent ρ) q′ ys i (ρ .none) (rowVal ρ e ∷ []) b o within $
-                -- where t.rows[i] lies
+                -- where t[i] lies
                 assigns ! (bin ! (value ! 20 refl) (lit ! (ρ .small)) (record { fits = fits })) (from ! (stop !)) (init ! 6 refl (tt, record { fits = fits })) $
-                assigns ! (addr ! (from ! (fld ! refl (stop !)))) (from ! (stop !)) (init ! 4 refl (tt, tt)) $
+                assigns ! (addr ! (from ! (stop !))) (from ! (stop !)) (init ! 4 refl (tt, tt)) $
                 assigns ! (bin ! (value ! 4 refl) (value ! 6 refl) tt) (from ! (stop !)) (init ! 2 refl (tt, tt)) $
-                rewrite ! 2 (λ (p : ℕ). ‵ (fat fullShare tyPtr l₁₃ 0 (vptr l₃ p))) (sym (place-is (rowSize ρ) off i)) refl $
+                rewrite ! 2 (λ (p : ℕ). ‵ (fat fullShare tyPtr l₁₃ 0 (vptr l₃ p))) (sym (place-is (rowSize ρ) 0 i)) refl $
                 -- the row is stored there
                 assigns ! (of-opd ! (value ! 8 refl)) (from ! (hop ! (look ! 2 refl) (stop !)))
-                (store-in ! 22 (elem ! (rowVals ρ (rows i)) i (rowVal ρ (ρ .none)) _ inside (vals-long ρ (rows i) ∙ filled-long ρ N (rows i) n f) refl (sub ! 0 refl (whole !))) (LL.lawful (ρ .type) (ρ .laws) 𝓤 H A W .typed e _ is .0)) $
-                rewrite ! 22 (λ (us : List Val). ‵ (fat fullShare Tab l₃ 0 (vstruct (vcons (vstruct (ofList us)) (vcons (vint w64 n) vnil))))) (sym (vals-set ρ (rows i) i e)) refl $
+                (store-in ! 22 (elem ! (rowVals ρ (rows i)) i (rowVal ρ (ρ .none)) _ inside (vals-long ρ (rows i) ∙ filled-long ρ N (rows i) f) refl (whole !)) (LL.lawful (ρ .type) (ρ .laws) 𝓤 H A W .typed e _ is .0)) $
+                rewrite ! 22 (λ (us : List Val). ‵ (fat fullShare Tab l₃ 0 (arrayVal us))) (sym (vals-set ρ (rows i) i e)) refl $
                 -- the count goes up, and what the turn made is forgotten
                 assigns-last ! (bin ! (value ! 20 refl) (lit ! tt) (record { fits = next-fits i n within (room .0) })) (from ! (stop !)) (store ! 20 refl (tt, record { fits = next-fits i n within (room .0) })) $
                 rewrite ! 20 (λ (j : ℕ). ‵ (fat fullShare (tyInt w64) l₄ 0 (vint w64 j))) (add-one i) refl $
                 forget ! 2 refl $ forget ! 4 refl $ forget ! 6 refl $ forget ! 8 refl $ forget ! 10 refl $ forget ! 12 refl $ forget ! 14 refl $
-                again ! _≺_ I (i, (le, f)) (suc i, (yet, filled-set ρ N (rows i) n f i e is)) (falls i k yet))
+                again ! _≺_ I (i, (le, f)) (suc i, (yet, filled-set ρ N (rows i) f i e is)) (falls i k yet))
               where
                 e : Row ρ
                 e = getD ys i (ρ .none)
@@ -192,12 +187,12 @@ module _ (ρ : RowType) (N : ℕ) (β : TableType ρ N) (#free : Name) where
 
                 inside : i < length (rowVals ρ (rows i))
                 inside =
-                    let h : length (rowVals ρ (rows i)) ≡ N = vals-long ρ (rows i) ∙ filled-long ρ N (rows i) n f in
+                    let h : length (rowVals ρ (rows i)) ≡ N = vals-long ρ (rows i) ∙ filled-long ρ N (rows i) f in
                     let m : k ≤ N = min-le-right n N in
                     omega (arith, h, m, yet)
 
             -- the turn that leaves the loop, and the rest of the body
-            ends : (i : ℕ) (le : i ≤ k) (f : Filled ρ N (rows i) n) → i ≡ k → Sq W (I (i, (le, f))) (runs (𝓣 .C) (𝓣 .Λ) E turn (anyQ (afterTurn 𝓤 H (Below 𝓤 H A _≺_ I (i, (le, f))) (Kit.post 𝓤 H Left))))
+            ends : (i : ℕ) (le : i ≤ k) (f : Filled ρ N (rows i)) → i ≡ k → Sq W (I (i, (le, f))) (runs (𝓣 .C) (𝓣 .Λ) E turn (anyQ (afterTurn 𝓤 H (Below 𝓤 H A _≺_ I (i, (le, f))) (Kit.post 𝓤 H Left))))
             unfolding afterTurn
             ends i le f same =
                 -- the test fails
@@ -205,22 +200,19 @@ module _ (ρ : RowType) (N : ℕ) (β : TableType ρ N) (#free : Name) where
                 rewrite ! 14 (λ (z : Bool). ‵ (fat fullShare tyBool l₇ 0 (vbool z))) (le-ltb i k (omega (arith, same))) refl $ leaves-loop ! (value ! 14 refl) $
                 -- the table is returned, the slice is shut, and the locals die
                 exec ! (𝓣 .C) (𝓣 .Λ) E after (atRet E Post) $
-                assigns ! (of-opd ! (value ! 22 refl)) (from ! (stop !)) (init ! 28 refl (table-typed ρ N β 𝓤 H A W (β .make (rows i) n) _ is)) $
+                assigns ! (of-opd ! (value ! 22 refl)) (from ! (stop !)) (init ! 28 refl (table-typed ρ N 𝓤 H A W (rows i) _ f)) $
                 shuts-slice ! tt (lent ρ) q′ ys b o $ returns ! (look ! 27 refl) $
                 leave ! 27 refl refl $ leave ! 25 refl refl $ leave ! 23 refl refl $ leave ! 21 refl refl $ leave ! 19 refl refl $ leave ! 17 refl refl $ leave ! 15 refl refl $ leave ! 13 refl refl $
                 leave-room ! 11 refl refl $ leave-room ! 9 refl refl $ leave-room ! 7 refl refl $ leave-room ! 5 refl refl $ leave-room ! 3 refl refl $ leave-room ! 1 refl refl $ free0 ! $
                 -- it is what the contract says
-                suffices ! _ (ends-at 𝓤 H A T₀ stayed loadClauses W (((κ, tt), (q, tt), tt, a, (s ∷ [], tt)), tt) _ (β .make (rows i) n) (tt, tt) (tt, tt)) $ says ! right $
-                nothing ! $ move ! (1 ∷ 0 ∷ []) $ join ! $ frame ! $ nothing ! $ nothing ! $ fjoin ! $ frame ! $ owned ! B (Is B) (table-makes ρ N β 𝓤 H A) (β .make (rows i) n) _ is $ done !
+                suffices ! _ (ends-at 𝓤 H A T₀ stayed loadClauses W (((κ, tt), (q, tt), tt, a, (s ∷ [], tt)), tt) _ (rows i) (tt, tt) (tt, tt)) $ says ! right $
+                nothing ! $ move ! (1 ∷ 0 ∷ []) $ join ! $ frame ! $ nothing ! $ nothing ! $ fjoin ! $ frame ! $ owned ! B (Is B) (table-makes ρ N 𝓤 H A W) (rows i) _ f $ done !
               where
-                is : Is B (β .make (rows i) n) (tableVal ρ (rows i) n ∷ [])
-                is = made-is ρ N β (rows i) n f
-
                 long : length frees ≡ N
-                long = sym (as-many (ρ .none) frees ys i) ∙ filled-long ρ N (rows i) n f
+                long = sym (as-many (ρ .none) frees ys i) ∙ filled-long ρ N (rows i) f
 
-                right : β .make (rows i) n ≡ loaded ys
-                right = ap (λ (j : ℕ). β .make (rows j) n) same ∙ ap (λ (l : List (Row ρ)). β .make l n) (over-all (ρ .none) frees ys k (ap (min n) (sym long))) ∙ told ys
+                right : rows i ≡ loaded ys
+                right = ap rows same ∙ over-all (ρ .none) frees ys k (ap (min n) (sym long)) ∙ told ys
 
             each-turn : (x : X) → Sq W (I x) (runs (𝓣 .C) (𝓣 .Λ) E turn (anyQ (afterTurn 𝓤 H (Below 𝓤 H A _≺_ I x) (Kit.post 𝓤 H Left))))
             each-turn x = ⊎-elim (ends (x .0) (x .1 .0) (x .1 .1)) (more (x .0) (x .1 .0) (x .1 .1)) (eq-or-lt-of-le (x .1 .0))
@@ -237,20 +229,19 @@ module _ (ρ : RowType) (N : ℕ) (β : TableType ρ N) (#free : Name) where
               -- n = placed(rs.len(), N)
               assigns ! (of-opd ! (load ! (from ! (fld ! refl (stop !))) (look-in ! 24 (sub ! 1 refl (whole !))))) (from ! (stop !)) (init ! 16 refl (tt, record { fits = room .0 })) $
               calls-plain ! (fmOf 𝓤 H (W .laws) 𝓣) placed.ended (placed.clauses 𝓤 H A mem run) placed-known (tt, tt, tt, (n, (N, tt)), (vint w64 n ∷ [], (vint w64 N ∷ [], tt))) tt (id⊢ 𝓤 (emp 𝓤))
-              (uint-makes 𝓤 H A W w64, (uint-makes 𝓤 H A W w64, tt)) ((refl, room .0), ((refl, lit< (β .few)), tt)) (id⊢ 𝓤 (emp 𝓤)) (uint-vals w64) (uint-tells w64) k (vint w64 k) refl (λ r e. id⊢ 𝓤 _)
-              (and-then ! (value ! 17 refl) (and-then ! (lit ! (β .few)) (no-more !))) (λ k-is. land ! (from ! (stop !)) (init ! 22 refl (tt, record { fits = k-is .1 })) $
-              -- t = free(rs.len())
-              assigns ! (of-opd ! (load ! (from ! (fld ! refl (stop !))) (look-in ! 24 (sub ! 1 refl (whole !))))) (from ! (stop !)) (store ! 16 refl (tt, record { fits = room .0 })) $
-              calls-plain ! (fmOf 𝓤 H (W .laws) 𝓣) (Free B) (freeClauses ρ N β frees 𝓤 H A) free-known (tt, tt, tt, (n, tt), (vint w64 n ∷ [], tt)) tt (id⊢ 𝓤 (emp 𝓤))
-              (uint-makes 𝓤 H A W w64, tt) ((refl, room .0), tt) (id⊢ 𝓤 (emp 𝓤)) (tableVals ρ N β) (table-tells ρ N β) (β .make frees n) (tableVal ρ frees n) (made-vals ρ N β frees n) (λ r e. id⊢ 𝓤 _)
-              (and-then ! (value ! 17 refl) (no-more !)) (λ is. land ! (from ! (stop !)) (init ! 14 refl (table-typed ρ N β 𝓤 H A W (β .make frees n) _ is)) $
-              assigns ! (of-opd ! (value ! 14 refl)) (from ! (stop !)) (init ! 20 refl (table-typed ρ N β 𝓤 H A W (β .make frees n) _ is)) $
+              (uint-makes 𝓤 H A W w64, (uint-makes 𝓤 H A W w64, tt)) ((refl, room .0), ((refl, lit< (few)), tt)) (id⊢ 𝓤 (emp 𝓤)) (uint-vals w64) (uint-tells w64) k (vint w64 k) refl (λ r e. id⊢ 𝓤 _)
+              (and-then ! (value ! 17 refl) (and-then ! (lit ! (few)) (no-more !))) (λ k-is. land ! (from ! (stop !)) (init ! 22 refl (tt, record { fits = k-is .1 })) $
+              -- t = free()
+              calls-plain ! (fmOf 𝓤 H (W .laws) 𝓣) (Free B) (freeClauses ρ N frees 𝓤 H A) free-known (tt, tt, tt, tt, tt) tt (id⊢ 𝓤 (emp 𝓤))
+              tt tt (id⊢ 𝓤 (emp 𝓤)) (λ rs. tableVal ρ rs ∷ []) (table-tells ρ N) frees (tableVal ρ frees) refl (λ r e. id⊢ 𝓤 _)
+              (no-more !) (λ is. land ! (from ! (stop !)) (init ! 14 refl (table-typed ρ N 𝓤 H A W frees _ is)) $
+              assigns ! (of-opd ! (value ! 14 refl)) (from ! (stop !)) (init ! 20 refl (table-typed ρ N 𝓤 H A W frees _ is)) $
               assigns ! (of-opd ! (lit ! tt)) (from ! (stop !)) (init ! 18 refl (tt, record { fits = lit< tt })) $
               -- the slice is looked into
               move ! (29 ∷ []) $ fsplit ! $ fsplit ! $ drop ! $ fsplit ! $ drop ! $ move ! (30 ∷ []) $ split ! $ move ! (2 ∷ 0 ∷ []) $
               looks-slice ! tt (lent ρ) (Is (lent ρ)) (shows 𝓤 H A (lent ρ)) (LL.vals (ρ .type) (ρ .laws)) (LL.tells (ρ .type) (ρ .laws)) (LL.copy (ρ .type) (ρ .copy) 𝓤 H A W) ys b o (λ q′.
               keep ! (0 ∷ 1 ∷ 5 ∷ 6 ∷ 7 ∷ 8 ∷ 9 ∷ 10 ∷ 11 ∷ 12 ∷ 13 ∷ 14 ∷ 15 ∷ 16 ∷ 17 ∷ 18 ∷ 19 ∷ 20 ∷ 21 ∷ 22 ∷ 23 ∷ 24 ∷ 25 ∷ 26 ∷ 27 ∷ 28 ∷ 29 ∷ 30 ∷ 31 ∷ 32 ∷ []) $ first ! $ blocks ! $
-              loops ! 𝓣 _≺_ (down-wf k (λ x. x .0)) (I q′) (each-turn q′) (0, (zero-le, made-filled ρ N β frees n is)))))
+              loops ! 𝓣 _≺_ (down-wf k (λ x. x .0)) (I q′) (each-turn q′) (0, (zero-le, is)))))
 
         walk : ent 𝓤 (onEntry 𝓤 H A (T₀ .signature) (κ, tt) (q, tt) a (s ∷ [], tt)) (WpFn 𝓤 H (𝓣 .C) (𝓣 .Λ) code (s ∷ []) Post)
         walk =

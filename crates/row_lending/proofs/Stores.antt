@@ -5,10 +5,9 @@
 -- In a step the number of `value`, `look`, `init`, `store`, `forget` or `leave` is a place in the list of what there is (`Start`, `I`): a local takes two, the last local comes first, and what stands before the locals is listed where it changes.
 use Rattle.hand_proofs.proofs.Prelude.{_≡_, refl, sym, ap, subst, _∙_, ℕ, suc, _<_, _≤_, _+_, _*_, _^_, min, zero-le, min-le-left, min-le-right, eq-or-lt-of-le, min-comm, add-one, arith, ⊎-elim, Bool, [], _∷_, List, lit<, length, getD, URA, fullShare, Ty, named, mut, w64, tyInt, tyBool, tyPtr, tyRef, tyUnit, Val, vunit, vint, vptr, vbool, SProp, ent, emp, via, fst∗, id⊢, GName, Lft, Share, ftrue, flft, fat, fobor, fobs, fauth, Memory, Routine, Heap, Env, Wp, WpFn, Tables, afterSeq, afterBlock, afterTurn, atReturn, Atoms, Fun, Given, Item, Sq, runs, anyQ, atRet, ‵, _⊛_, _$_, _∵_, !, qed, move, keep, drop, split, join, rewrite, fsplit, fjoin, feqI, suffices, frame, done, whole, sub, look-in, look, store, store-raw, init, forget, stop, hop, fld, from, load, lit, unit-lit, bin, of-opd, and-then, no-more, assigns, assigns-last, land, first, blocks, loops, again, Below, stays, leaves-loop, exec, returns, enter, alloc1, alloc0, params1, pass1, pass0, free0, fmOf, WpFn-mono, owns, Is, shows, pointee, pureI, Held, uint-makes, uint-vals, uint-tells, RefT, place-is, row, elem-out, elem-put, opens-slice, closes-slice, sliceTy, sliceVal, slice-vals, MutSlice, Room, at-slice, heres, codedHoleys, mut-slice-tells, owned, nothing, onEntry, Meets, Triple, says, Stays, stay-slice, stay-dropped, walkOf, goes-slice, goes-dropped, Walks, ends-at, walked, walk-meets, yes, Param, plain, lt-ltb, le-ltb, addr, fact}
 use types.Kit as Kit
-use lib.Dec.{T}
-use mir.Syntax.{Fn, opdUnit, Body, local, valueLocal, memorySlot, place, copy, int, rvOpd, op2, lt, mul, add, offset, unsigned, addrOf, field, deref, assign, seq, cond, skip, exit, call, block, loop, return, tyArray}
+use lib.Dec.{T, ltb}
+use mir.Syntax.{Fn, opdUnit, Body, local, valueLocal, memorySlot, place, copy, int, rvOpd, op2, lt, mul, add, offset, unsigned, addrOf, field, deref, assign, seq, cond, skip, exit, call, block, loop, return}
 use mir.Val.{WT, hasTy}
-use prog.Memory.{align, up}
 use denote.Triple.Clauses.{Ended, Clauses, closing}
 use denote.Struct.Laws as LL
 use mathlib.Core.List.{_++_}
@@ -17,35 +16,35 @@ use Rattle.row_lending.proofs.Over.{over, as-many, over-all}
 use Rattle.hand_proofs.proofs.Walk.{unset, holds, value, calls-plain, leave, leave-room, down, down-wf}
 use Rattle.row_lending.proofs.Lends.{Store}
 use Rattle.row_lending.proofs.Elements.{elem}
-use Rattle.row_lending.proofs.TableTypes.{RowType, Row, lent, rowTy, rowSize, rowVal, rowVals, tableVal, Filled, TableType, table, tableTy, tableVals, table-tells, table-typed, table-last, table-silent, table-filled, filled-long, filled-at, vals-long, vals-at}
+use Rattle.row_lending.proofs.TableTypes.{RowType, Row, lent, rowTy, rowSize, rowVal, rowVals, tableVal, Filled, table, tableTy, table-tells, table-typed, table-last, table-silent, filled-long, filled-at, vals-long, vals-at}
 use Rattle.row_lending.proofs.Turns.{PlacedContract, offset-fits, below, next-fits, falls}
 use Rattle.row_lending.proofs.placed as placed
 use Rattle.row_lending.proofs.placed.Symbol.{name as #placed}
 
-module _ (ρ : RowType) (N : ℕ) (β : TableType ρ N) where
+module _ (ρ : RowType) (N : ℕ) (few : T (ltb N (2 ^ 64))) where
   abbrev S₁ : Param 1
   S₁ = plain (λ _. lent ρ)
 
   abbrev S₂ : Param 1
-  S₂ = plain (λ _. table ρ N β)
+  S₂ = plain (λ _. table ρ N)
 
   abbrev T₀ : Ended
-  T₀ = Store (lent ρ) (table ρ N β)
+  T₀ = Store (lent ρ) (table ρ N)
 
   -- ---- the code
   abbrev Ref : Ty
   Ref = sliceTy (tyRef (named 0) mut (pointee (lent ρ .written)))
 
   abbrev Tab : Ty
-  Tab = tableTy ρ N β
+  Tab = tableTy ρ N
 
-  -- a turn: rs[i] = t.rows[i]; i += 1
+  -- a turn: rs[i] = t[i]; i += 1
   abbrev turn : Body
   turn =
       seq (assign (place 7 []) (op2 (lt unsigned) (copy (place 5 [])) (copy (place 4 []))))
       (seq (cond (copy (place 7 [])) skip (exit 1))
       (seq (assign (place 8 []) (op2 (mul unsigned) (copy (place 5 [])) (int w64 (rowSize ρ))))
-      (seq (assign (place 9 []) (addrOf (place 3 (field 0 ∷ []))))
+      (seq (assign (place 9 []) (addrOf (place 3 [])))
       (seq (assign (place 10 []) (op2 offset (copy (place 9 [])) (copy (place 8 []))))
       (seq (assign (place 11 []) (rvOpd (copy (place 10 (deref (rowTy ρ) ∷ [])))))
       (seq (assign (place 12 []) (op2 (mul unsigned) (copy (place 5 [])) (int w64 (rowSize ρ))))
@@ -82,11 +81,11 @@ module _ (ρ : RowType) (N : ℕ) (β : TableType ρ N) where
   module _ {M : Type 1} (𝓤 : URA M) (H : Heap 𝓤) (A : Atoms 𝓤) (W : Given 𝓤 H A) (mem : Memory → SProp 𝓤) (run : Routine → Fun 𝓤) where
     -- ---- the contract: what `store` ensures
     abbrev storeClauses : Clauses 𝓤 T₀
-    storeClauses = λ κs a. record { ghost = Unit {0}; requires = λ _. emp 𝓤; ensures = λ _ _ e. fact 𝓤 (e .0 .now ≡ overlay (β .rows (a .1 .0)) (a .0 .now)) }
+    storeClauses = λ κs a. record { ghost = Unit {0}; requires = λ _. emp 𝓤; ensures = λ _ _ e. fact 𝓤 (e .0 .now ≡ overlay (a .1 .0) (a .0 .now)) }
 
     module _ (𝓣 : Tables 𝓤 H) (placed-known : Triple 𝓤 (𝓣 .C #placed) (PlacedContract 𝓤 H A mem run)) where
-      -- ---- a call: the rows ys lie at (b, o), lent for κ, and t is the table
-      module _ (κ : Lft) (q : Share) (b o : ℕ) (γ : GName) (ys : List (Row ρ)) (t : β .Table) (room : Room (lent ρ) (length ys)) (t-is : Is (table ρ N β) t (tableVals ρ N β t)) where
+      -- ---- a call: the rows ys lie at (b, o), lent for κ, and rs are the table's
+      module _ (κ : Lft) (q : Share) (b o : ℕ) (γ : GName) (ys : List (Row ρ)) (rs : List (Row ρ)) (room : Room (lent ρ) (length ys)) (rs-are : Filled ρ N rs) where
         abbrev n : ℕ
         n = length ys
 
@@ -96,27 +95,21 @@ module _ (ρ : RowType) (N : ℕ) (β : TableType ρ N) where
         abbrev x : List (Row ρ) → RefT (List (Row ρ))
         x l = record { ptr = (b, o); name = γ; now = l }
 
-        abbrev a : RefT (List (Row ρ)) × (β .Table × Unit {0})
-        a = (x ys, (t, tt))
+        abbrev a : RefT (List (Row ρ)) × (List (Row ρ) × Unit {0})
+        a = (x ys, (rs, tt))
 
         abbrev s : Val
         s = sliceVal (b, o) n
 
         abbrev at : List Val × (List Val × Unit {0})
-        at = (s ∷ [], (tableVals ρ N β t, tt))
+        at = (s ∷ [], (tableVal ρ rs ∷ [], tt))
 
         abbrev Post : Val → SProp 𝓤
         Post = walkOf 𝓤 H A T₀ stayed storeClauses .post (((κ, tt), (q, tt), tt, a, at), tt)
 
-        -- the table's rows, and the lent rows after i turns
-        abbrev rs : List (Row ρ)
-        rs = β .rows t
-
+        -- the lent rows after i turns
         abbrev zs : ℕ → List (Row ρ)
         zs i = over (ρ .none) ys rs i
-
-        filled : Filled ρ N rs (β .count t)
-        filled = table-filled ρ N β t t-is
 
         -- the loop's states
         abbrev X : Type 0
@@ -129,18 +122,14 @@ module _ (ρ : RowType) (N : ℕ) (β : TableType ρ N) where
           abbrev E : Env 𝓤 H
           E = (tyUnit, l₀) ∷ (Ref, l₁) ∷ (Tab, l₂) ∷ (Tab, l₃) ∷ (tyInt w64, l₄) ∷ (tyInt w64, l₅) ∷ (tyInt w64, l₆) ∷ (tyBool, l₇) ∷ (tyInt w64, l₈) ∷ (tyPtr, l₉) ∷ (tyPtr, l₁₀) ∷ (rowTy ρ, l₁₁) ∷ (tyInt w64, l₁₂) ∷ (tyPtr, l₁₃) ∷ []
 
-          -- where the table's rows begin in its local
-          abbrev off : ℕ
-          off = 0 + up (align (tyArray (rowTy ρ) N)) 0
-
           -- what there is before each turn: the rows, what closes the slice, and the locals, from the last
           abbrev I : X → List (Item 𝓤)
           I x = ‵ (row (lent ρ) fullShare (zs (x .0)) b o) ∷ ‵ (fobor κ q (Held (lent ρ) n b o γ)) ∷ ‵ (fobs γ (codedHoleys (lent ρ) .code (heres (lent ρ) ys))) ∷ ‵ (fauth γ (codedHoleys (lent ρ) .code (heres (lent ρ) ys)))
               ∷ unset tyPtr l₁₃ ++ unset (tyInt w64) l₁₂ ++ unset (rowTy ρ) l₁₁ ++ unset tyPtr l₁₀
               ++ unset tyPtr l₉ ++ unset (tyInt w64) l₈ ++ unset tyBool l₇
               ++ holds (tyInt w64) l₆ (vint w64 n) ++ holds (tyInt w64) l₅ (vint w64 (x .0))
-              ++ holds (tyInt w64) l₄ (vint w64 k) ++ holds Tab l₃ (tableVal ρ rs (β .count t))
-              ++ holds Tab l₂ (tableVal ρ rs (β .count t)) ++ holds Ref l₁ s ++ unset tyUnit l₀ ++ []
+              ++ holds (tyInt w64) l₄ (vint w64 k) ++ holds Tab l₃ (tableVal ρ rs)
+              ++ holds Tab l₂ (tableVal ρ rs) ++ holds Ref l₁ s ++ unset tyUnit l₀ ++ []
 
           -- what is to hold where the loop ends
           abbrev Left : Kit.Post 𝓤 H
@@ -153,13 +142,13 @@ module _ (ρ : RowType) (N : ℕ) (β : TableType ρ N) where
               -- the test holds
               assigns ! (bin ! (value ! 20 refl) (value ! 22 refl) tt) (from ! (stop !)) (init ! 16 refl (tt, tt)) $
               rewrite ! 16 (λ (z : Bool). ‵ (fat fullShare tyBool l₇ 0 (vbool z))) (lt-ltb i k yet) refl $ stays ! (value ! 16 refl) $
-              -- where t.rows[i] lies: it is read
+              -- where t[i] lies: it is read
               assigns ! (bin ! (value ! 20 refl) (lit ! (ρ .small)) (record { fits = fits })) (from ! (stop !)) (init ! 14 refl (tt, record { fits = fits })) $
-              assigns ! (addr ! (from ! (fld ! refl (stop !)))) (from ! (stop !)) (init ! 12 refl (tt, tt)) $
+              assigns ! (addr ! (from ! (stop !))) (from ! (stop !)) (init ! 12 refl (tt, tt)) $
               assigns ! (bin ! (value ! 12 refl) (value ! 14 refl) tt) (from ! (stop !)) (init ! 10 refl (tt, tt)) $
-              rewrite ! 10 (λ (p : ℕ). ‵ (fat fullShare tyPtr l₁₀ 0 (vptr l₃ p))) (sym (place-is (rowSize ρ) off i)) refl $
+              rewrite ! 10 (λ (p : ℕ). ‵ (fat fullShare tyPtr l₁₀ 0 (vptr l₃ p))) (sym (place-is (rowSize ρ) 0 i)) refl $
               assigns ! (of-opd ! (load ! (from ! (hop ! (look ! 10 refl) (stop !)))
-              (look-in ! 24 (elem ! (rowVals ρ rs) i (rowVal ρ (ρ .none)) (rowVal ρ e) (subst (λ (m : ℕ). i < m) (sym (vals-long ρ rs)) inside) (vals-long ρ rs ∙ filled-long ρ N rs (β .count t) filled) (vals-at ρ rs i) (sub ! 0 refl (whole !))))))
+              (look-in ! 24 (elem ! (rowVals ρ rs) i (rowVal ρ (ρ .none)) (rowVal ρ e) (subst (λ (m : ℕ). i < m) (sym (vals-long ρ rs)) inside) (vals-long ρ rs ∙ filled-long ρ N rs rs-are) (vals-at ρ rs i) (whole !)))))
               (from ! (stop !)) (init ! 8 refl e-typed) $
               -- where rs[i] lies
               assigns ! (bin ! (value ! 20 refl) (lit ! (ρ .small)) (record { fits = fits })) (from ! (stop !)) (init ! 6 refl (tt, record { fits = fits })) $
@@ -185,13 +174,13 @@ module _ (ρ : RowType) (N : ℕ) (β : TableType ρ N) where
               within = subst (λ (m : ℕ). i < m) (sym (as-many (ρ .none) ys rs i)) early
 
               inside : i < length rs
-              inside = subst (λ (m : ℕ). i < m) (sym (filled-long ρ N rs (β .count t) filled)) (below i k N yet (min-le-right n N))
+              inside = subst (λ (m : ℕ). i < m) (sym (filled-long ρ N rs rs-are)) (below i k N yet (min-le-right n N))
 
               fits : i * rowSize ρ < 2 ^ 64
               fits = offset-fits (rowSize ρ) i n early (room .1)
 
               e-is : Is (lent ρ) e (rowVal ρ e ∷ [])
-              e-is = filled-at ρ N rs (β .count t) filled i inside
+              e-is = filled-at ρ N rs rs-are i inside
 
               e-typed : T (hasTy (rowTy ρ) (rowVal ρ e)) × WT (rowVal ρ e)
               e-typed = LL.lawful (ρ .type) (ρ .laws) 𝓤 H A W .typed e _ e-is .0
@@ -209,13 +198,13 @@ module _ (ρ : RowType) (N : ℕ) (β : TableType ρ N) where
               leave ! 29 refl refl $ leave ! 27 refl refl $ leave ! 25 refl refl $ leave ! 23 refl refl $ leave ! 21 refl refl $ leave ! 19 refl refl $ leave ! 17 refl refl $ leave ! 15 refl refl $
               leave-room ! 13 refl refl $ leave-room ! 11 refl refl $ leave-room ! 9 refl refl $ leave-room ! 7 refl refl $ leave-room ! 5 refl refl $ leave-room ! 3 refl refl $ free0 ! $
               -- the rows are what the contract says
-              suffices ! _ (ends-at 𝓤 H A T₀ stayed storeClauses W (((κ, tt), (q, tt), tt, a, at), tt) vunit tt (zs i, (table-last ρ N β t, tt)) (as-many (ρ .none) ys rs i, (tt, tt))) $ says ! right $
+              suffices ! _ (ends-at 𝓤 H A T₀ stayed storeClauses W (((κ, tt), (q, tt), tt, a, at), tt) vunit tt (zs i, (table-last ρ N rs, tt)) (as-many (ρ .none) ys rs i, (tt, tt))) $ says ! right $
               nothing ! $ move ! (3 ∷ 0 ∷ []) $ join ! $ frame ! $
               fjoin ! $ pureI ! (at-slice (lent ρ) (x (zs i)) (s ∷ [])) (tt, (tt, tt)) (ap (λ (m : ℕ). sliceVal (b, o) m ∷ []) (sym (as-many (ρ .none) ys rs i)), subst (Room (lent ρ)) (sym (as-many (ρ .none) ys rs i)) room) $ fjoin ! $
               nothing ! $ nothing ! $ fjoin ! $ move ! (1 ∷ 0 ∷ []) $ fjoin ! $ frame ! $ feqI ! (List Val) (vunit ∷ []) (vunit ∷ []) refl $ done !
             where
               right : zs i ≡ overlay rs ys
-              right = ap zs same ∙ over-all (ρ .none) ys rs k (min-comm n N ∙ ap (λ (m : ℕ). min m n) (sym (filled-long ρ N rs (β .count t) filled)))
+              right = ap zs same ∙ over-all (ρ .none) ys rs k (min-comm n N ∙ ap (λ (m : ℕ). min m n) (sym (filled-long ρ N rs rs-are)))
 
           each-turn : (x : X) → Sq W (I x) (runs (𝓣 .C) (𝓣 .Λ) E turn (anyQ (afterTurn 𝓤 H (Below 𝓤 H A _≺_ I x) (Kit.post 𝓤 H Left))))
           each-turn x = ⊎-elim (ends (x .0) (x .1)) (more (x .0) (x .1)) (eq-or-lt-of-le (x .1))
@@ -224,33 +213,33 @@ module _ (ρ : RowType) (N : ℕ) (β : TableType ρ N) where
           abbrev Start : List (Item 𝓤)
           Start = unset tyPtr l₁₃ ++ unset (tyInt w64) l₁₂ ++ unset (rowTy ρ) l₁₁ ++ unset tyPtr l₁₀
               ++ unset tyPtr l₉ ++ unset (tyInt w64) l₈ ++ unset tyBool l₇ ++ unset (tyInt w64) l₆
-              ++ unset (tyInt w64) l₅ ++ unset (tyInt w64) l₄ ++ unset Tab l₃ ++ holds Tab l₂ (tableVal ρ rs (β .count t))
-              ++ holds Ref l₁ s ++ unset tyUnit l₀ ++ (‵ (flft κ q) ⊛ ‵ ftrue) ∷ ‵ (owns (MutSlice (named 0) κ (lent ρ) ∷ table ρ N β ∷ []) a at) ∷ []
+              ++ unset (tyInt w64) l₅ ++ unset (tyInt w64) l₄ ++ unset Tab l₃ ++ holds Tab l₂ (tableVal ρ rs)
+              ++ holds Ref l₁ s ++ unset tyUnit l₀ ++ (‵ (flft κ q) ⊛ ‵ ftrue) ∷ ‵ (owns (MutSlice (named 0) κ (lent ρ) ∷ table ρ N ∷ []) a at) ∷ []
 
           begins : Sq W Start (runs (𝓣 .C) (𝓣 .Λ) E body (atRet E Post))
           begins =
               -- the table's own place, and n = placed(rs.len(), N)
-              assigns ! (of-opd ! (value ! 22 refl)) (from ! (stop !)) (init ! 20 refl (table-typed ρ N β 𝓤 H A W t _ t-is)) $
+              assigns ! (of-opd ! (value ! 22 refl)) (from ! (stop !)) (init ! 20 refl (table-typed ρ N 𝓤 H A W rs _ rs-are)) $
               assigns ! (of-opd ! (load ! (from ! (fld ! refl (stop !))) (look-in ! 24 (sub ! 1 refl (whole !))))) (from ! (stop !)) (init ! 14 refl (tt, record { fits = room .0 })) $
               calls-plain ! (fmOf 𝓤 H (W .laws) 𝓣) placed.ended (placed.clauses 𝓤 H A mem run) placed-known (tt, tt, tt, (n, (N, tt)), (vint w64 n ∷ [], (vint w64 N ∷ [], tt))) tt (id⊢ 𝓤 (emp 𝓤))
-              (uint-makes 𝓤 H A W w64, (uint-makes 𝓤 H A W w64, tt)) ((refl, room .0), ((refl, lit< (β .few)), tt)) (id⊢ 𝓤 (emp 𝓤)) (uint-vals w64) (uint-tells w64) k (vint w64 k) refl (λ r e. id⊢ 𝓤 _)
-              (and-then ! (value ! 15 refl) (and-then ! (lit ! (β .few)) (no-more !))) (λ k-is. land ! (from ! (stop !)) (init ! 18 refl (tt, record { fits = k-is .1 })) $
+              (uint-makes 𝓤 H A W w64, (uint-makes 𝓤 H A W w64, tt)) ((refl, room .0), ((refl, lit< (few)), tt)) (id⊢ 𝓤 (emp 𝓤)) (uint-vals w64) (uint-tells w64) k (vint w64 k) refl (λ r e. id⊢ 𝓤 _)
+              (and-then ! (value ! 15 refl) (and-then ! (lit ! (few)) (no-more !))) (λ k-is. land ! (from ! (stop !)) (init ! 18 refl (tt, record { fits = k-is .1 })) $
               assigns ! (of-opd ! (lit ! tt)) (from ! (stop !)) (init ! 16 refl (tt, record { fits = lit< tt })) $
               -- the slice is opened
               move ! (29 ∷ []) $ fsplit ! $ fsplit ! $ drop ! $ fsplit ! $ move ! (31 ∷ []) $ split ! $ move ! (2 ∷ 3 ∷ 0 ∷ []) $ opens-slice ! tt (lent ρ) ys b o $
               keep ! (0 ∷ 1 ∷ 2 ∷ 3 ∷ 6 ∷ 7 ∷ 8 ∷ 9 ∷ 10 ∷ 11 ∷ 12 ∷ 13 ∷ 14 ∷ 15 ∷ 16 ∷ 17 ∷ 18 ∷ 19 ∷ 20 ∷ 21 ∷ 22 ∷ 23 ∷ 24 ∷ 25 ∷ 26 ∷ 27 ∷ 28 ∷ 29 ∷ 30 ∷ 31 ∷ 32 ∷ 33 ∷ []) $ first ! $ blocks ! $
               loops ! 𝓣 _≺_ (down-wf k (λ x. x .0)) I each-turn (0, zero-le))
 
-        walk : ent 𝓤 (onEntry 𝓤 H A (T₀ .signature) (κ, tt) (q, tt) a at) (WpFn 𝓤 H (𝓣 .C) (𝓣 .Λ) code (s ∷ tableVals ρ N β t) Post)
+        walk : ent 𝓤 (onEntry 𝓤 H A (T₀ .signature) (κ, tt) (q, tt) a at) (WpFn 𝓤 H (𝓣 .C) (𝓣 .Λ) code (s ∷ tableVal ρ rs ∷ []) Post)
         walk =
-            qed W ((‵ (flft κ q) ⊛ ‵ ftrue) ∷ ‵ (owns (MutSlice (named 0) κ (lent ρ) ∷ table ρ N β ∷ []) a at) ∷ []) ∵ enter ! (𝓣 .C) (𝓣 .Λ) code (s ∷ tableVals ρ N β t) _ $
+            qed W ((‵ (flft κ q) ⊛ ‵ ftrue) ∷ ‵ (owns (MutSlice (named 0) κ (lent ρ) ∷ table ρ N ∷ []) a at) ∷ []) ∵ enter ! (𝓣 .C) (𝓣 .Λ) code (s ∷ tableVal ρ rs ∷ []) _ $
             alloc1 ! (λ l₀. alloc1 ! (λ l₁. alloc1 ! (λ l₂. alloc1 ! (λ l₃. alloc1 ! (λ l₄. alloc1 ! (λ l₅. alloc1 ! (λ l₆. alloc1 ! (λ l₇. alloc1 ! (λ l₈. alloc1 ! (λ l₉. alloc1 ! (λ l₁₀. alloc1 ! (λ l₁₁. alloc1 ! (λ l₁₂. alloc1 ! (λ l₁₃. alloc0 ! $ params1 ! $
-            pass1 ! (init ! 24 refl (tt, (tt, (record { fits = room .0 }, tt)))) $ pass1 ! (init ! 22 refl (table-typed ρ N β 𝓤 H A W t _ t-is)) $ pass0 ! $ begins l₀ l₁ l₂ l₃ l₄ l₅ l₆ l₇ l₈ l₉ l₁₀ l₁₁ l₁₂ l₁₃))))))))))))))
+            pass1 ! (init ! 24 refl (tt, (tt, (record { fits = room .0 }, tt)))) $ pass1 ! (init ! 22 refl (table-typed ρ N 𝓤 H A W rs _ rs-are)) $ pass0 ! $ begins l₀ l₁ l₂ l₃ l₄ l₅ l₆ l₇ l₈ l₉ l₁₀ l₁₁ l₁₂ l₁₃))))))))))))))
 
       -- the walk at every call
       walks : Walks 𝓤 H A T₀ stayed (WpFn 𝓤 H (𝓣 .C) (𝓣 .Λ) code) storeClauses
-      walks = walked 𝓤 H A T₀ stayed storeClauses (WpFn 𝓤 H (𝓣 .C) (𝓣 .Λ) code) (λ κs. (slice-vals, (tableVals ρ N β, tt))) (λ κs. (mut-slice-tells (named 0) (κs .0) (lent ρ), (table-tells ρ N β, tt)))
+      walks = walked 𝓤 H A T₀ stayed storeClauses (WpFn 𝓤 H (𝓣 .C) (𝓣 .Λ) code) (λ κs. (slice-vals, ((λ rs. tableVal ρ rs ∷ []), tt))) (λ κs. (mut-slice-tells (named 0) (κs .0) (lent ρ), (table-tells ρ N, tt)))
           (λ κs qs bounds a g are. via 𝓤 _ (fst∗ 𝓤 _ (emp 𝓤)) (walk (κs .0) (qs .0) (a .0 .ptr .0) (a .0 .ptr .1) (a .0 .name) (a .0 .now) (a .1 .0) (are .0 .0 .1) (are .1 .0)))
 
       pub stores : Meets 𝓤 H A (T₀ .signature) (WpFn 𝓤 H (𝓣 .C) (𝓣 .Λ) code) (closing 𝓤 H A T₀ storeClauses)
-      stores = walk-meets 𝓤 H A T₀ stayed W (goes-slice 𝓤 H A W 1 0 tt S₁, (goes-dropped 𝓤 H A W 1 S₂ yes (λ κs x f. table-silent ρ N β x f), tt)) storeClauses (WpFn 𝓤 H (𝓣 .C) (𝓣 .Λ) code) (WpFn-mono 𝓤 H (W .laws) 𝓣 code) walks
+      stores = walk-meets 𝓤 H A T₀ stayed W (goes-slice 𝓤 H A W 1 0 tt S₁, (goes-dropped 𝓤 H A W 1 S₂ yes (λ κs x f. table-silent ρ N x f), tt)) storeClauses (WpFn 𝓤 H (𝓣 .C) (𝓣 .Λ) code) (WpFn-mono 𝓤 H (W .laws) 𝓣 code) walks

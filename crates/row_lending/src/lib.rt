@@ -4,19 +4,7 @@ use row_types::RegisterRow;
 use row_types::SlotRow;
 ghost use mathlib.Core.Path.{_≡_};
 ghost use Prim.Native.Nat.{min};
-ghost use Rattle.row_lending.specs.Tables.{overlay, freeSlotTable, freeRegisterTable, slotTable, registerTable};
-
-// Places for 8 slot rows, and how many rows the caller has: 9 rows are 9, so that their count is refused.
-pub struct SlotTable {
-    pub rows: [SlotRow; 8],
-    pub count: usize,
-}
-
-// Places for 32 register rows, and how many rows the caller has.
-pub struct RegisterTable {
-    pub rows: [RegisterRow; 32],
-    pub count: usize,
-}
+ghost use Rattle.row_lending.specs.Tables.{overlay, freeSlots, freeRegisters, slotTable, registerTable};
 
 // How many rows have one of the places.
 fn placed(count: usize, places: usize) -> usize
@@ -25,73 +13,67 @@ fn placed(count: usize, places: usize) -> usize
     if count < places { count } else { places }
 }
 
-// A table of free rows, for as many rows of the caller's as count says.
-fn free_slots(count: usize) -> SlotTable
-    ensures { λ t. ⌜ t ≡ freeSlotTable count ⌝ }
+// Tables of free rows.
+fn free_slots() -> [SlotRow; 8]
+    ensures { λ rows. ⌜ rows ≡ freeSlots ⌝ }
 {
     let free = slot_rows::free_slot();
-    SlotTable {
-        rows: [free; 8],
-        count,
-    }
+    [free; 8]
 }
 
-fn free_registers(count: usize) -> RegisterTable
-    ensures { λ t. ⌜ t ≡ freeRegisterTable count ⌝ }
+fn free_registers() -> [RegisterRow; 32]
+    ensures { λ rows. ⌜ rows ≡ freeRegisters ⌝ }
 {
     let free = register_rows::free_register();
-    RegisterTable {
-        rows: [free; 32],
-        count,
-    }
+    [free; 32]
 }
 
-// The lent rows by value, as far as there are places.
-pub fn load_slots(slots: &[SlotRow]) -> SlotTable
-    ensures { λ table. ⌜ table ≡ slotTable (now (slots .entry)) ⌝ }
+// The lent rows by value, as far as there are places, and free rows after them.
+pub fn load_slots(slots: &[SlotRow]) -> [SlotRow; 8]
+    ensures { λ rows. ⌜ rows ≡ slotTable (now (slots .entry)) ⌝ }
 {
     let n = placed(slots.len(), 8);
-    let mut table = free_slots(slots.len());
+    let mut rows = free_slots();
     let mut i = 0;
     while i < n {
-        table.rows[i] = slots[i];
+        rows[i] = slots[i];
         i += 1;
     }
-    table
+    rows
 }
 
-pub fn load_registers(registers: &[RegisterRow]) -> RegisterTable
-    ensures { λ table. ⌜ table ≡ registerTable (now (registers .entry)) ⌝ }
+pub fn load_registers(registers: &[RegisterRow]) -> [RegisterRow; 32]
+    ensures { λ rows. ⌜ rows ≡ registerTable (now (registers .entry)) ⌝ }
 {
     let n = placed(registers.len(), 32);
-    let mut table = free_registers(registers.len());
+    let mut rows = free_registers();
     let mut i = 0;
     while i < n {
-        table.rows[i] = registers[i];
+        rows[i] = registers[i];
         i += 1;
     }
-    table
+    rows
 }
 
 // The lent rows overwritten, as far as there are places; those beyond keep their value.
-pub fn store_slots(slots: &mut [SlotRow], table: SlotTable)
-    ensures { λ _. ⌜ now (slots .exit) ≡ overlay (table .rows) (now (slots .entry)) ⌝ }
+pub fn store_slots(slots: &mut [SlotRow], rows: [SlotRow; 8])
+    ensures { λ _. ⌜ now (slots .exit) ≡ overlay rows (now (slots .entry)) ⌝ }
 {
     let n = placed(slots.len(), 8);
     let mut i = 0;
     while i < n {
-        slots[i] = table.rows[i];
+        slots[i] = rows[i];
         i += 1;
     }
 }
 
-pub fn store_registers(registers: &mut [RegisterRow], table: RegisterTable)
-    ensures { λ _. ⌜ now (registers .exit) ≡ overlay (table .rows) (now (registers .entry)) ⌝ }
+pub fn store_registers(registers: &mut [RegisterRow], rows: [RegisterRow; 32])
+    ensures { λ _. ⌜ now (registers .exit) ≡ overlay rows (now (registers .entry)) ⌝ }
 {
     let n = placed(registers.len(), 32);
     let mut i = 0;
     while i < n {
-        registers[i] = table.rows[i];
+        registers[i] = rows[i];
         i += 1;
     }
 }

@@ -1,5 +1,5 @@
--- `entry_numbers::answer` meets its contract: the core's answer, in numbers and in two tables.
-use Rattle.entry_numbers.proofs.AnswerLaws.{number-of, byte-of, responded-of, slots-of, registers-of}
+-- `entry_numbers::answer` meets its contract: the core's answer, in numbers.
+use Rattle.entry_numbers.proofs.AnswerLaws.{number-of, byte-of, responded-of, tables-of}
 use borrow.Author.Needs.{needs}
 use Rattle.entry_numbers.proofs.answer.Statement.{statement}
 use Rattle.entry_numbers.proofs.answer.Tie as tie
@@ -15,4 +15,4 @@ answer-spec =
     (λ c κs. search needs)
     (λ c κs. search needs)
     (λ c. search needs)
-    (λ c. (search number-of, (search byte-of, (search responded-of, (search slots-of, (search registers-of, search needs)))))))
+    (λ c. record { outcome-is = search number-of; state-is = search byte-of; written = search responded-of; fits = search needs; tables-are = search tables-of }))

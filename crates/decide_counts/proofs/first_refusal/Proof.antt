@@ -1,0 +1,14 @@
+-- `decide_counts::first_refusal` meets its contract, a law a return.
+use Rattle.decide_counts.proofs.CountLaws.{first-counts, first-room, first-yes}
+use borrow.Author.Needs.{needs}
+use Rattle.decide_counts.proofs.first_refusal.Statement.{statement}
+use Rattle.decide_counts.proofs.first_refusal.Tie as tie
+
+pub first-refusal-spec : {M : Type 1} → statement M
+first-refusal-spec =
+    tie.close
+    (tie.spec
+    (λ c κs. search needs)
+    (λ c. search first-counts)
+    (λ c. search first-room)
+    (λ c. search first-yes))
