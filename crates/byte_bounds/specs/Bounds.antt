@@ -15,3 +15,7 @@ FitIn n b = (b .start ≤ b .end) × (b .end ≤ n)
 -- the bounds in the whole of what has the bounds b in the part with the bounds a
 abbrev pub inside : Bounds → Bounds → Bounds
 inside a b = record { start = a .start + b .start; end = a .start + b .end }
+
+-- the bounds of what was not found
+abbrev pub nowhere : Bounds
+nowhere = record { start = 0; end = 0 }

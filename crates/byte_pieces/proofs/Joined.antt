@@ -2,9 +2,10 @@
 use mathlib.Core.Path.{_≡_, refl, ap, _∙_}
 use mathlib.Core.Bool.{Bool, true, false}
 use mathlib.Core.List.{List, [], _∷_, _++_, append-nil}
-use Prim.Native.Nat.{ℕ}
+use Prim.Native.Nat.{ℕ, _<_}
 use native.Mathlib.Omega.{arith}
 use lib.Dec.{eqb}
+use lib.ListN.{length}
 use borrow.Author.Tests.{eqb-true}
 use Rattle.byte_strings.specs.Strings.{allOf, isNot}
 use Rattle.byte_pieces.specs.Pieces.{onto, pieces, isEnded, joined}
@@ -35,3 +36,27 @@ pub pieces-joined : (d : ℕ) (s : List ℕ) → isEnded d s ≡ true → joined
 pieces-joined d [] e = refl
 pieces-joined d (b ∷ []) e = rw (e, eqb-true b d e)
 pieces-joined d (b ∷ c ∷ cs) e = one-more d b c cs (eqb b d) refl (pieces-joined d (c ∷ cs) e)
+
+-- a string that is ended, and not empty, has a piece
+pub some-piece : (d : ℕ) (s : List ℕ) → isEnded d s ≡ true → 0 < length s → 0 < length (pieces d s)
+some-piece d s e h = go (pieces d s) (pieces-joined d s e)
+  where
+    go : (ps : List (List ℕ)) → joined d ps ≡ s → 0 < length ps
+    go [] q = absurd (let k = ap length q in omega arith)
+    go (p ∷ ps) q = omega arith
+
+-- what follows a string that is ended adds its pieces; t is whether the string starts with the delimiter
+onto-append : (b : ℕ) (ps qs : List (List ℕ)) → 0 < length ps → onto b (ps ++ qs) ≡ onto b ps ++ qs
+onto-append b [] qs h = absurd (omega arith)
+onto-append b (p ∷ ps) qs h = refl
+
+one-before : (d b : ℕ) (s r : List ℕ) (t : Bool) → eqb b d ≡ t → 0 < length (pieces d s) → pieces d (s ++ r) ≡ pieces d s ++ pieces d r
+    → pieces d (b ∷ (s ++ r)) ≡ pieces d (b ∷ s) ++ pieces d r
+one-before d b s r true e l h = rw (e, h)
+one-before d b s r false e l h = rw (e, h) (onto-append b (pieces d s) (pieces d r) l)
+
+pub pieces-append : (d : ℕ) (s r : List ℕ) → isEnded d s ≡ true → pieces d (s ++ r) ≡ pieces d s ++ pieces d r
+pieces-append d [] r e = refl
+pieces-append d (b ∷ []) r e = rw e
+pieces-append d (b ∷ c ∷ cs) r e =
+    one-before d b (c ∷ cs) r (eqb b d) refl (some-piece d (c ∷ cs) e (omega arith)) (pieces-append d (c ∷ cs) r e)

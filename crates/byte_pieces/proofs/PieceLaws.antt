@@ -8,11 +8,11 @@ use native.Mathlib.Omega.{arith}
 use lib.Dec.{eqb}
 use lib.ListN.{length, getD, take, drop, length-drop, drop-of-length-le}
 use lib.Seq.{drop-drop}
-use borrow.Author.Tests.{eq-eqb, ne-eqb}
+use borrow.Author.Tests.{eq-eqb}
 use Rattle.byte_strings.specs.Strings.{isNot, run, allOf}
 use Rattle.byte_pieces.specs.Pieces.{pieces, isEnded}
 use Rattle.byte_strings.proofs.Flags.{and-first, and-second}
-use Rattle.byte_strings.proofs.StringLaws.{rest, run-le, run-stopped, run-turn}
+use Rattle.byte_strings.proofs.StringLaws.{rest, run-le}
 
 -- the first piece of a list that has a delimiter, and what follows it; t is whether the list starts with the delimiter
 module _ (d b : ℕ) (bs : List ℕ) where
@@ -115,18 +115,6 @@ module _ (d : ℕ) (s : List ℕ) (at k : ℕ) (z : List ℕ) (inv : getD (piece
           later : (j : ℕ) → (j ≡ 0 → ⊥) → getD (pieces d (drop at s)) j [] ≡ z → getD (pieces d (drop (e + 1) s)) (j - 1) [] ≡ z
           later zero n q = absurd (n refl)
           later (suc j) n q = let m : suc j - 1 ≡ j = omega arith in rw m (rw (next-piece d s at e p h) at q)
-
--- piece_count: n and the pieces of what is left are all, z
-module _ (d : ℕ) (s : List ℕ) (at n z : ℕ) (inv : n + length (pieces d (drop at s)) ≡ z) where
-  pub count-done : length s ≤ at → n ≡ z
-  count-done h = let e : length (pieces d (drop at s)) ≡ 0 = ap (λ (l : List ℕ). length (pieces d l)) (drop-of-length-le s h) in omega arith
-
-  module _ (e : ℕ) (p : e ≡ at + run (isNot d) (drop at s)) where
-    pub count-open : at < length s → length s ≤ e → n ≡ z
-    count-open l h = let q : length (pieces d (drop at s)) ≡ 0 = ap length (no-piece d s at e p (omega arith) h) in omega arith
-
-    pub count-turn : e < length s → n + 1 + length (pieces d (drop (e + 1) s)) ≡ z
-    count-turn h = let q : length (pieces d (drop at s)) ≡ suc (length (pieces d (drop (e + 1) s))) = ap length (next-piece d s at e p h) in omega arith
 
 -- a piece that is written is read, and what stands after it
 not-false : (t : Bool) → not t ≡ true → t ≡ false

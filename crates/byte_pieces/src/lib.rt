@@ -4,7 +4,7 @@ ghost use mathlib.Core.List.{[]};
 ghost use Prim.Native.Nat.{_+_, _≤_};
 ghost use lib.ListN.{length, drop, getD};
 ghost use Rattle.byte_strings.specs.Strings.{isNot, run};
-ghost use Rattle.byte_pieces.specs.Pieces.{pieces, isEnded};
+ghost use Rattle.byte_pieces.specs.Pieces.{pieces};
 
 // Where the piece that starts at a place ends: at its delimiter, or at the end of the bytes.
 pub fn piece_end(bytes: &[u8], at: usize, delimiter: u8) -> usize
@@ -33,34 +33,4 @@ pub fn piece<'a>(bytes: &'a [u8], delimiter: u8, index: usize) -> &'a [u8]
         at = e + 1;
     }
     &bytes[0..0]
-}
-
-// How many pieces there are.
-pub fn piece_count(bytes: &[u8], delimiter: u8) -> usize
-    ensures { λ r. ⌜ r ≡ length (pieces delimiter (now (bytes .entry))) ⌝ }
-{
-    let mut at = 0;
-    let mut n: usize = 0;
-    while at < bytes.len() {
-        let e = piece_end(bytes, at, delimiter);
-        if bytes.len() <= e {
-            return n;
-        }
-        n += 1;
-        at = e + 1;
-    }
-    n
-}
-
-// Whether nothing follows the last delimiter.
-pub fn is_ended(bytes: &[u8], delimiter: u8) -> bool
-    ensures { λ r. ⌜ r ≡ isEnded delimiter (now (bytes .entry)) ⌝ }
-{
-    if bytes.len() == 0 {
-        return true;
-    }
-    if bytes[bytes.len() - 1] != delimiter {
-        return false;
-    }
-    true
 }

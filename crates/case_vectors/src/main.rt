@@ -5,8 +5,13 @@ use field_values::Field;
 use libc::STDIN_FILENO;
 use libc::STDOUT_FILENO;
 use message_commands::Command;
+use record_parser::Record;
+ghost use mathlib.Core.Path.{_≡_};
+ghost use mathlib.Core.Bool.{true};
 ghost use lib.ListN.{length};
 ghost use Rattle.field_values.specs.Bounds.{Within};
+ghost use Rattle.record_parser.specs.Records.{AreFields};
+ghost use Rattle.record_identities.specs.Identities.{colon};
 
 fn say(s: &[u8]) {
     io::write_all(STDOUT_FILENO, s);
@@ -106,37 +111,59 @@ fn show_record(parses: bool, in_form: bool) {
     say(b"  parses, in form\n");
 }
 
+fn show_identity(identity: Record, s: &[u8])
+    requires { ⌜ (identity .parsed ≡ true → AreFields colon 4 (identity .fields) (now s)) ⌝ }
+{
+    if !identity.parsed {
+        show_record(false, false);
+        return;
+    }
+    let fields = identity.fields;
+    show_record(true, record_identities::is_identity_in_form(s, fields));
+}
+
+fn show_public_key(s: &[u8]) {
+    let key = record_types::read_public_key(s);
+    if !key.parsed {
+        show_record(false, false);
+        return;
+    }
+    show_record(true, record_forms::is_public_key_in_form(s, key));
+}
+
+fn show_load_response(s: &[u8]) {
+    let answer = record_types::read_response(s);
+    if !answer.parsed {
+        show_record(false, false);
+        return;
+    }
+    show_record(true, record_forms::is_response_in_form(s, answer));
+}
+
+fn show_key(s: &[u8]) {
+    let key = record_types::read_key(s);
+    show_record(key.parsed, record_forms::key_in_form(s));
+}
+
 fn show_records(kind: &[u8], s: &[u8]) -> bool {
     if byte_strings::same_bytes(kind, b"kmcid") {
-        show_record(
-            record_identities::is_kmc_identity(s),
-            record_identities::identity_in_form(s),
-        );
+        show_identity(record_identities::read_kmc_identity(s), s);
         return true;
     }
     if byte_strings::same_bytes(kind, b"smid") {
-        show_record(
-            record_identities::is_module_identity(s),
-            record_identities::identity_in_form(s),
-        );
+        show_identity(record_identities::read_module_identity(s), s);
         return true;
     }
     if byte_strings::same_bytes(kind, b"pubkey") {
-        show_record(
-            record_types::parses_public_key(s),
-            record_forms::public_key_in_form(s),
-        );
+        show_public_key(s);
         return true;
     }
     if byte_strings::same_bytes(kind, b"vkloadresp") {
-        show_record(
-            record_types::parses_response(s),
-            record_forms::response_in_form(s),
-        );
+        show_load_response(s);
         return true;
     }
     if byte_strings::same_bytes(kind, b"key") {
-        show_record(record_types::parses_key(s), record_forms::key_in_form(s));
+        show_key(s);
         return true;
     }
     if byte_strings::same_bytes(kind, b"card") {

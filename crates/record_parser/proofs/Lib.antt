@@ -1,1 +1,3 @@
+pub mod CutLaws
 pub mod ParseLaws
+pub mod FieldLaws

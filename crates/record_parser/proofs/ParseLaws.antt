@@ -2,7 +2,7 @@
 use mathlib.Core.Path.{_≡_, refl, sym, ap, _∙_}
 use mathlib.Core.Bool.{Bool, true, false, not, and-false, and-comm, _&&_}
 use mathlib.Core.List.{List, [], _∷_, _++_}
-use Prim.Native.Nat.{ℕ, suc, _+_, _-_, _≤_, _<_}
+use Prim.Native.Nat.{ℕ, _+_, _-_, _≤_, _<_}
 use native.Mathlib.Numerals.{add-one}
 use native.Mathlib.Omega.{arith}
 use lib.Dec.{leb, eqb}
@@ -10,7 +10,6 @@ use lib.ListN.{length, getD, take}
 use lib.Seq.{take-suc, length-take-le}
 use borrow.Author.Tests.{eq-eqb, ne-eqb, le-leb, lt-leb, not-true, not-false}
 use Rattle.byte_strings.specs.Strings.{sameBytes}
-use Rattle.byte_strings.specs.Texts.{all}
 use Rattle.byte_strings.proofs.StringLaws.{same-behind}
 use Rattle.byte_pieces.specs.Pieces.{pieces, isEnded}
 use Rattle.check_sums.specs.Checksum.{endsInSum}
@@ -18,6 +17,7 @@ use Rattle.check_sums.specs.declared.Kind.the-variants.{Modbus}
 use Rattle.text_classes.specs.Classes.{areAll}
 use Rattle.text_classes.specs.declared.Class.the-variants.{Printable}
 use Rattle.record_parser.specs.Records.{bodyOf, field, isRecord}
+use Rattle.record_parser.proofs.CutLaws.{isCut}
 
 -- body
 pub no-body : (s : List ℕ) → length s < 4 → [] ≡ bodyOf s
@@ -54,52 +54,43 @@ module _ (t : List ℕ) (d : ℕ) (s : List ℕ) where
     pub type-compared : getD s (length t) 0 ≡ d → (r : Bool) → r ≡ sameBytes (take (length t) s) t → r ≡ starts
     type-compared o r p = rw (by-byte, eq-eqb (getD s (length t) 0) d o, ← p) (and-comm true r)
 
--- has_fields, a test after the other
-module _ (d n : ℕ) (b : List ℕ) where
-  abbrev fielded : Bool
-  fielded = isEnded d b && (areAll Printable b && eqb (length (pieces d b)) (n + 1))
+  -- is_framed, a test after the other; the length is looked at first
+  abbrev framed : Bool
+  framed = starts && (leb (length t + 5) (length s) && endsInSum Modbus s)
 
-  module _ (w : Bool) (m : w ≡ isEnded d b) where
-    pub bad-end : not w ≡ true → false ≡ fielded
-    bad-end o = rw (← m, not-true w o)
-
-    module _ (k : not w ≡ false) (x : Bool) (e : x ≡ areAll Printable b) where
-      pub unprintable : not x ≡ true → false ≡ fielded
-      unprintable o = rw (← m, not-false w k, ← e, not-true x o)
-
-      module _ (f : not x ≡ false) (z : ℕ) (g : z ≡ length (pieces d b)) where
-        counted : eqb z (n + 1) ≡ fielded
-        counted = rw (← m, not-false w k, ← e, not-false x f, ← g)
-
-        pub no-type : z ≡ 0 → false ≡ fielded
-        no-type o = sym (ne-eqb z (n + 1) (λ y. omega arith)) ∙ counted
-
-        pub other-count : (z ≡ 0 → ⊥) → (z - 1 ≡ n → ⊥) → false ≡ fielded
-        other-count o r = sym (ne-eqb z (n + 1) (λ y. r (omega arith))) ∙ counted
-
-        pub all-fields : (z ≡ 0 → ⊥) → z - 1 ≡ n → true ≡ fielded
-        all-fields o r = sym (eq-eqb z (n + 1) (omega arith)) ∙ counted
-
--- is_record, a test after the other; the length is looked at first
-module _ (t : List ℕ) (d n : ℕ) (s : List ℕ) where
-  pub too-short : length s < 5 → false ≡ isRecord t d n s
-  unfolding isRecord
+  pub too-short : length s < 5 → false ≡ framed
   too-short h = simp (lt-leb (length t + 5) (length s) (omega arith), and-false)
 
-  pub no-room : 5 ≤ length s → length s - 5 < length t → false ≡ isRecord t d n s
-  unfolding isRecord
+  pub no-room : 5 ≤ length s → length s - 5 < length t → false ≡ framed
   no-room l h = simp (lt-leb (length t + 5) (length s) (omega arith), and-false)
 
-  module _ (l : 5 ≤ length s) (h : length t ≤ length s - 5) (x : Bool) (p : x ≡ sameBytes (take (length t + 1) s) (t ++ (d ∷ []))) where
-    pub other-type : not x ≡ true → false ≡ isRecord t d n s
-    unfolding isRecord
+  module _ (l : 5 ≤ length s) (h : length t ≤ length s - 5) (x : Bool) (p : x ≡ starts) where
+    pub other-type : not x ≡ true → false ≡ framed
     other-type o = rw (← p, not-true x o)
 
-    module _ (i : not x ≡ false) (u : Bool) (c : u ≡ endsInSum Modbus s) where
-      pub bad-sum : not u ≡ true → false ≡ isRecord t d n s
-      unfolding isRecord
-      bad-sum o = rw (← p, not-false x i, le-leb (length t + 5) (length s) (omega arith), ← c, not-true u o)
+    pub sum-tested : not x ≡ false → (u : Bool) → u ≡ endsInSum Modbus s → u ≡ framed
+    sum-tested o u c = rw (← p, not-false x o, le-leb (length t + 5) (length s) (omega arith)) c
 
-      pub parsed : not u ≡ false → (b : List ℕ) → b ≡ bodyOf s → (r : Bool) → r ≡ fielded d n b → r ≡ isRecord t d n s
-      unfolding isRecord
-      parsed o b e r q = rw (← p, not-false x i, le-leb (length t + 5) (length s) (omega arith), ← c, not-false u o, ← e, q)
+-- read_record: the frame, then the body
+split : (a l m z : Bool) → (a && (l && (m && z))) ≡ (a && (l && m) && z)
+split true true m z = refl
+split true false m z = refl
+split false l m z = refl
+
+module _ (t : List ℕ) (d n : ℕ) (s : List ℕ) (x : Bool) (p : x ≡ framed t d s) where
+  abbrev fielded : List ℕ → Bool
+  fielded b = isEnded d b && (areAll Printable b && eqb (length (pieces d b)) (n + 1))
+
+  by-body : isRecord t d n s ≡ (x && fielded (bodyOf s))
+  unfolding isRecord
+  by-body = rw p (split (starts t d s) (leb (length t + 5) (length s)) (endsInSum Modbus s) (fielded (bodyOf s)))
+
+  pub not-framed : not x ≡ true → (r : Bool) → r ≡ false → r ≡ isRecord t d n s
+  not-framed o r q = rw (by-body, not-true x o) q
+
+  module _ (o : not x ≡ false) (b : List ℕ) (e : b ≡ bodyOf s) (y : Bool) (f : y ≡ areAll Printable b) where
+    pub unprintable : not y ≡ true → (r : Bool) → r ≡ false → r ≡ isRecord t d n s
+    unprintable k r q = rw (by-body, not-false x o, ← e, ← f, not-true y k) (q ∙ sym (and-false (isEnded d b)))
+
+    pub cut : not y ≡ false → (r : Bool) → r ≡ isCut d n b → r ≡ isRecord t d n s
+    cut k r q = rw (by-body, not-false x o, ← e, ← f, not-false y k) q

@@ -5,9 +5,10 @@ use Prim.Native.Char.{code}
 use mathlib.Core.Bool.{Bool}
 use mathlib.Core.List.{List, [], _∷_}
 use Rattle.byte_strings.specs.Texts.{text, all}
-use Rattle.record_parser.specs.Records.{field, isRecord}
+use Rattle.byte_bounds.specs.declared.Bounds.{Bounds}
+use Rattle.record_parser.specs.Records.{field, isRecord, AreFields}
 use Rattle.card_incoming.specs.Incoming.{isIncoming}
-use Rattle.record_identities.specs.Identities.{isKmcIdentity, isModuleIdentity, identityInForm}
+use Rattle.record_identities.specs.Identities.{colon, isKmcIdentity, isModuleIdentity, identityInForm}
 use Rattle.text_forms.specs.Forms.{inForm}
 use Rattle.text_forms.specs.declared.Form.the-variants.{Timestamp, Hex, HexSome, Empty}
 
@@ -32,6 +33,10 @@ parsesPublicKey s =
     ∷ isKmcIdentity (field bar 1 s)
     ∷ [])
 
+-- the bounds of a public key's fields, and those of its KMC identity's fields in that identity
+abbrev pub IsPublicKey : List Bounds → List Bounds → List ℕ → Type 0
+IsPublicKey fields kmc s = AreFields bar 5 fields s × AreFields colon 4 kmc (field bar 1 s)
+
 unfoldable pub publicKeyInForm : List ℕ → Bool
 publicKeyInForm s =
     all (
@@ -50,6 +55,11 @@ parsesResponse s =
     ∷ isKmcIdentity (field bar 1 s)
     ∷ isModuleIdentity (field bar 2 s)
     ∷ [])
+
+-- the bounds of a load response's fields, and those of its identities' fields in each of them
+abbrev pub IsResponse : List Bounds → List Bounds → List Bounds → List ℕ → Type 0
+IsResponse fields kmc sm s =
+    AreFields bar 4 fields s × (AreFields colon 4 kmc (field bar 1 s) × AreFields colon 4 sm (field bar 2 s))
 
 unfoldable pub responseInForm : List ℕ → Bool
 responseInForm s =

@@ -1,48 +1,114 @@
-// Which records parse as the public key, load response and wrapped key of key management: question 9 (003 clauses 7.2
-// to 7.5; document 01, "Records").
+// The records of key management, cut: the public key, load response and wrapped key, with the identities inside them:
+// question 9 (003 clauses 7.2 to 7.5; document 01, "Records").
+use byte_bounds::Bounds;
+use record_parser::Record;
 ghost use mathlib.Core.Path.{_≡_};
-ghost use Rattle.record_parser.specs.Records.{field};
-ghost use Rattle.record_identities.specs.Identities.{isKmcIdentity, isModuleIdentity};
+ghost use mathlib.Core.Bool.{true};
+ghost use Rattle.record_parser.specs.Records.{AreFields};
 ghost use Rattle.record_types.specs.KeyRecords.{bar, parsesPublicKey, parsesResponse, parsesKey};
+ghost use Rattle.record_types.specs.KeyRecords.{IsPublicKey, IsResponse};
 
-fn has_kmc_identity(source: &[u8]) -> bool
-    ensures { λ r. ⌜ r ≡ isKmcIdentity (field bar 1 (now (source .entry))) ⌝ }
-{
-    record_identities::is_kmc_identity(record_parser::field(source, b'|', 1))
+// A public key record, cut, with its KMC identity.
+pub struct PublicKey {
+    pub parsed: bool,
+    pub fields: [Bounds; 6],
+    pub kmc: [Bounds; 6],
 }
 
-fn has_module_identity(source: &[u8]) -> bool
-    ensures { λ r. ⌜ r ≡ isModuleIdentity (field bar 2 (now (source .entry))) ⌝ }
-{
-    record_identities::is_module_identity(record_parser::field(source, b'|', 2))
+// A load response record, cut, with its two identities.
+pub struct LoadResponse {
+    pub parsed: bool,
+    pub fields: [Bounds; 6],
+    pub kmc: [Bounds; 6],
+    pub module: [Bounds; 6],
 }
 
-// Whether the source parses as a public key with its KMC identity.
+// The public key, cut.
+pub fn read_public_key(source: &[u8]) -> PublicKey
+    ensures { λ k. ⌜ k .parsed ≡ parsesPublicKey (now (source .entry)) ⌝ }
+    ensures fields { λ k. ⌜ (k .parsed ≡ true → IsPublicKey (k .fields) (k .kmc) (now (source .entry))) ⌝ }
+{
+    let record = record_parser::read_record(b"PK.ECDH.1", b'|', 5, source);
+    let fields = record.fields;
+    if !record.parsed {
+        return PublicKey {
+            parsed: false,
+            fields,
+            kmc: fields,
+        };
+    }
+    let identity = record_identities::read_kmc_identity(byte_bounds::part(source, fields[1]));
+    let kmc = identity.fields;
+    PublicKey {
+        parsed: identity.parsed,
+        fields,
+        kmc,
+    }
+}
+
+// The load response, cut.
+pub fn read_response(source: &[u8]) -> LoadResponse
+    ensures { λ a. ⌜ a .parsed ≡ parsesResponse (now (source .entry)) ⌝ }
+    ensures fields { λ a. ⌜ (a .parsed ≡ true → IsResponse (a .fields) (a .kmc) (a .module) (now (source .entry))) ⌝ }
+{
+    let record = record_parser::read_record(b"VKLOAD.RESP.1", b'|', 4, source);
+    let fields = record.fields;
+    if !record.parsed {
+        return LoadResponse {
+            parsed: false,
+            fields,
+            kmc: fields,
+            module: fields,
+        };
+    }
+    let centre = record_identities::read_kmc_identity(byte_bounds::part(source, fields[1]));
+    let kmc = centre.fields;
+    if !centre.parsed {
+        return LoadResponse {
+            parsed: false,
+            fields,
+            kmc,
+            module: fields,
+        };
+    }
+    let identity = record_identities::read_module_identity(byte_bounds::part(source, fields[2]));
+    let module = identity.fields;
+    LoadResponse {
+        parsed: identity.parsed,
+        fields,
+        kmc,
+        module,
+    }
+}
+
+// The wrapped key, cut.
+pub fn read_key(source: &[u8]) -> Record
+    ensures { λ r. ⌜ r .parsed ≡ parsesKey (now (source .entry)) ⌝ }
+    ensures fields { λ r. ⌜ (r .parsed ≡ true → AreFields bar 3 (r .fields) (now (source .entry))) ⌝ }
+{
+    record_parser::read_record(b"KEY.1", b'|', 3, source)
+}
+
+// goes
 pub fn parses_public_key(source: &[u8]) -> bool
     ensures { λ r. ⌜ r ≡ parsesPublicKey (now (source .entry)) ⌝ }
 {
-    if !record_parser::is_record(b"PK.ECDH.1", b'|', 5, source) {
-        return false;
-    }
-    has_kmc_identity(source)
+    let k = read_public_key(source);
+    k.parsed
 }
 
-// Whether the source parses as a load response with both its identities.
+// goes
 pub fn parses_response(source: &[u8]) -> bool
     ensures { λ r. ⌜ r ≡ parsesResponse (now (source .entry)) ⌝ }
 {
-    if !record_parser::is_record(b"VKLOAD.RESP.1", b'|', 4, source) {
-        return false;
-    }
-    if !has_kmc_identity(source) {
-        return false;
-    }
-    has_module_identity(source)
+    let a = read_response(source);
+    a.parsed
 }
 
-// Whether the source parses as a wrapped key.
+// goes
 pub fn parses_key(source: &[u8]) -> bool
     ensures { λ r. ⌜ r ≡ parsesKey (now (source .entry)) ⌝ }
 {
-    record_parser::is_record(b"KEY.1", b'|', 3, source)
+    let k = read_key(source);
+    k.parsed
 }

@@ -13,10 +13,12 @@ fn is_identity_right(supplement: Supplement) -> bool
         return false;
     }
     let identity = supplement.identity;
-    if !record_identities::is_module_identity(&identity[..n]) {
+    let record = record_identities::read_module_identity(&identity[..n]);
+    if !record.parsed {
         return false;
     }
-    record_identities::identity_in_form(&identity[..n])
+    let fields = record.fields;
+    record_identities::is_identity_in_form(&identity[..n], fields)
 }
 
 // Whether the load request is 1 to 700 bytes of text.
