@@ -39,6 +39,7 @@ pub fn name_of(entry: &[u8]) -> u32
     wide(entry[0]) * 65536 + wide(entry[1]) * 256 + wide(entry[2])
 }
 
+// goes
 // The value under a name; 0 is no name.
 pub fn find(card: &[u8], name: u32) -> Found
     ensures { λ r. ⌜ between (now (card .entry)) r ≡ valueOf name (now (card .entry)) ⌝ }
@@ -62,6 +63,7 @@ pub fn find(card: &[u8], name: u32) -> Found
     Found::Nothing
 }
 
+// goes
 // The value under a name; no byte, where the card has none.
 pub fn value<'a>(card: &'a [u8], name: u32) -> &'a [u8]
     ensures { λ v. ⌜ now v ≡ orElse (valueOf name (now (card .entry))) [] ⌝ }
@@ -73,6 +75,7 @@ pub fn value<'a>(card: &'a [u8], name: u32) -> &'a [u8]
     &card[start..end]
 }
 
+// goes
 // The value under a name in one card, and where it is absent in the other.
 pub fn value_or<'a>(card: &'a [u8], other: &'a [u8], name: u32) -> &'a [u8]
     ensures { λ r. ⌜ now r ≡ valueOr name (now (card .entry)) (now (other .entry)) ⌝ }

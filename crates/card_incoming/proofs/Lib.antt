@@ -1,2 +1,3 @@
-pub mod Sequence
 pub mod IncomingLaws
+pub mod Sequence
+pub mod ValueLaws

@@ -1,18 +1,21 @@
 -- The incoming card (document 01, Cards).
-use Prim.Native.Nat.{ℕ}
-use mathlib.Core.Bool.{Bool, true, false, cond, _&&_}
+use Prim.Native.Nat.{ℕ, suc, _<_}
+use mathlib.Core.Path.{_≡_}
+use mathlib.Core.Bool.{Bool, true, false, cond, not, _&&_}
 use mathlib.Core.List.{List, [], _∷_, map}
 use mathlib.Core.Option.{Option, none, some}
 use lib.Dec.{eqb, leb, ltb}
-use lib.ListN.{length, drop}
+use lib.ListN.{length, getD, drop}
 use Rattle.byte_strings.specs.Texts.{all}
+use Rattle.byte_bounds.specs.Bounds.{bytesIn, FitIn, nowhere}
+use Rattle.byte_bounds.specs.declared.Bounds.{Bounds}
 use Rattle.byte_pieces.specs.Pieces.{isEnded}
 use Rattle.text_classes.specs.Classes.{areAll}
 use Rattle.text_classes.specs.declared.Class.the-variants.{Value}
 use Rattle.text_forms.specs.Forms.{inForm}
 use Rattle.text_forms.specs.declared.Form.{Form}
 use Rattle.card_entries.specs.Entries.{semicolon, entries, isNamed, nameOf, valueOf}
-use Rattle.card_attributes.specs.Table.{table, name, presence, form}
+use Rattle.card_attributes.specs.Table.{table, rows, name, presence, form}
 use Rattle.card_attributes.specs.declared.Presence.{Presence}
 use Rattle.card_attributes.specs.declared.Presence.the-variants.{Required, Optional, Engine}
 use Rattle.card_attributes.specs.declared.Attribute.{Attribute}
@@ -78,3 +81,35 @@ hasRequired (a ∷ rs) card = isMet a card && hasRequired rs card
 -- an incoming card in form
 unfoldable pub isIncoming : List ℕ → Bool
 isIncoming card = isCard card && hasRequired table card
+
+-- the name of the attribute with an index
+unfoldable pub nameAt : ℕ → ℕ
+nameAt index = getD (map name table) index 0
+
+-- the value within bounds; none where they start at 0, since three letters stand before a value
+abbrev pub valueAt : List ℕ → Bounds → Option (List ℕ)
+valueAt card b = cond (eqb (b .start) 0) none (some (bytesIn card b))
+
+-- the bounds of the value that a card has under a name
+abbrev pub IsValue : List ℕ → ℕ → Bounds → Type 0
+IsValue card n b = FitIn (length card) b × (valueAt card b ≡ valueOf n card)
+
+-- the bounds of the value of each attribute, by its index
+unfoldable pub AreValues : List Bounds → List ℕ → Type 0
+AreValues values card = (k : ℕ) → k < rows → IsValue card (nameAt k) (getD values k nowhere)
+
+-- the index of the attribute with a name; their number where none has it
+abbrev pub indexOf : List Attribute → ℕ → ℕ
+indexOf [] n = 0
+indexOf (a ∷ rs) n = cond (eqb (name a) n) 0 (suc (indexOf rs n))
+
+-- v under the first attribute; under an unknown name where there is none
+abbrev pub fitsFirst : List Attribute → List ℕ → Bool
+fitsFirst [] v = areAll Value v
+fitsFirst (a ∷ rs) v = fits a v
+
+-- every required attribute has its value noted, the first of them at the index k
+abbrev pub hasNoted : List Attribute → ℕ → List Bounds → Bool
+hasNoted [] k values = true
+hasNoted (a ∷ rs) k values =
+    cond (isRequired (presence a)) (not (eqb (getD values k nowhere .start) 0)) true && hasNoted rs (suc k) values

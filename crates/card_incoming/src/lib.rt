@@ -1,12 +1,29 @@
-// The incoming card of a KEY.1 record: what passes question 10 (document 01, Cards).
+// The incoming card of a KEY.1 record: what passes question 10, and where its values stand (document 01, Cards).
+use byte_bounds::Bounds;
+use card_attributes::ACT;
 use card_attributes::Attribute;
+use card_attributes::BDT;
+use card_attributes::CLM;
+use card_attributes::CLU;
+use card_attributes::DKG;
+use card_attributes::IUT;
+use card_attributes::KCV;
+use card_attributes::KEN;
+use card_attributes::KRN;
+use card_attributes::KSL;
+use card_attributes::KTC;
 use card_attributes::Presence;
 use card_attributes::ROWS;
-use card_entries::Found;
+use card_attributes::SBM;
+use card_attributes::SGC;
+use card_attributes::ULM;
+use card_attributes::VND;
 use text_classes::Class;
 ghost use mathlib.Core.Path.{_≡_};
+ghost use mathlib.Core.Bool.{true};
+ghost use lib.ListN.{drop};
 ghost use Rattle.card_attributes.specs.Table.{table};
-ghost use Rattle.card_incoming.specs.Incoming.{fits, fitsName, isCard, isMet, hasRequired, isIncoming};
+ghost use Rattle.card_incoming.specs.Incoming.{fits, fitsFirst, indexOf, hasNoted, isIncoming, AreValues};
 
 // Whether v may stand under the attribute.
 fn fits(a: Attribute, v: &[u8]) -> bool
@@ -26,86 +43,103 @@ fn fits(a: Attribute, v: &[u8]) -> bool
     }
 }
 
-// Whether v may stand under the name, known or not.
-fn fits_name(name: u32, v: &[u8]) -> bool
-    ensures { λ r. ⌜ r ≡ fitsName table name (now (v .entry)) ⌝ }
+// Whether v may stand under the attribute with an index, from ROWS on under an unknown name.
+fn fits_at(index: usize, v: &[u8]) -> bool
+    ensures { λ r. ⌜ r ≡ fitsFirst (drop index table) (now (v .entry)) ⌝ }
 {
-    let mut k = 0;
-    while k < ROWS {
-        let a = card_attributes::row(k);
-        if a.0 == name {
-            return fits(a, v);
-        }
-        k += 1;
+    if ROWS <= index {
+        return text_classes::are_all(Class::Value, v);
     }
-    text_classes::are_all(Class::Value, v)
+    let a = card_attributes::row(index);
+    fits(a, v)
 }
 
-// Whether a card is entries that fit, names ascending, and nothing else.
-fn is_card(card: &[u8]) -> bool
-    ensures { λ r. ⌜ r ≡ isCard (now (card .entry)) ⌝ }
+// The index of the attribute with a name, ROWS where none has it.
+fn index_of(name: u32) -> usize
+    ensures { λ r. ⌜ r ≡ indexOf table name ⌝ }
 {
+    match name {
+        ACT => 0,
+        BDT => 1,
+        CLM => 2,
+        CLU => 3,
+        DKG => 4,
+        IUT => 5,
+        KCV => 6,
+        KEN => 7,
+        KRN => 8,
+        KSL => 9,
+        KTC => 10,
+        SBM => 11,
+        SGC => 12,
+        ULM => 13,
+        VND => 14,
+        _ => 15,
+    }
+}
+
+// Whether the value of every required attribute was noted.
+fn has_required(values: [Bounds; 15]) -> bool
+    ensures { λ r. ⌜ r ≡ hasNoted table 0 values ⌝ }
+{
+    let act = values[0].start != 0;
+    let bdt = values[1].start != 0;
+    let dkg = values[4].start != 0;
+    let ken = values[7].start != 0;
+    let krn = values[8].start != 0;
+    let ktc = values[10].start != 0;
+    let sgc = values[12].start != 0;
+    act & (bdt & (dkg & (ken & (krn & (ktc & sgc)))))
+}
+
+// An incoming card, read: whether it is in form; and where it is, the bounds of the value of each attribute by the
+// attribute's index, 0 and 0 where the card has none.
+pub struct Incoming {
+    pub in_form: bool,
+    pub values: [Bounds; 15],
+}
+
+// Reads an incoming card in one pass.
+pub fn read_card(card: &[u8]) -> Incoming
+    ensures { λ r. ⌜ r .in_form ≡ isIncoming (now (card .entry)) ⌝ }
+    ensures values { λ r. ⌜ (r .in_form ≡ true → AreValues (r .values) (now (card .entry))) ⌝ }
+{
+    let mut read = Incoming {
+        in_form: false,
+        values: [Bounds { start: 0, end: 0 }; 15],
+    };
     let mut at = 0;
     let mut last = 0;
     while at < card.len() {
-        let e = byte_pieces::piece_end(card, at, b';');
-        if card.len() <= e {
-            return false;
+        let end = byte_pieces::piece_end(card, at, b';');
+        if card.len() <= end {
+            return read;
         }
-        let name = card_entries::name_of(&card[at..e]);
+        let name = card_entries::name_of(&card[at..end]);
         if name <= last {
-            return false;
+            return read;
         }
         let start = at + 3;
-        if !fits_name(name, &card[start..e]) {
-            return false;
+        let index = index_of(name);
+        if !fits_at(index, &card[start..end]) {
+            return read;
+        }
+        if index < ROWS {
+            read.values[index] = Bounds { start, end };
         }
         last = name;
-        at = e + 1;
+        at = end + 1;
     }
-    true
+    let values = read.values;
+    read.in_form = has_required(values);
+    read
 }
 
-// Whether the attribute is there, if it is required.
-fn is_met(a: Attribute, card: &[u8]) -> bool
-    ensures { λ r. ⌜ r ≡ isMet a (now (card .entry)) ⌝ }
-{
-    let name = a.0;
-    let presence = a.1;
-    match presence {
-        Presence::Required => {
-            let f = card_entries::find(card, name);
-            match f {
-                Found::At { start: _, end: _ } => true,
-                Found::Nothing => false,
-            }
-        }
-        Presence::Optional => true,
-        Presence::Engine => true,
-    }
-}
-
-// Whether every required attribute is there.
-fn has_required(card: &[u8]) -> bool
-    ensures { λ r. ⌜ r ≡ hasRequired table (now (card .entry)) ⌝ }
-{
-    let mut k = 0;
-    while k < ROWS {
-        let a = card_attributes::row(k);
-        if !is_met(a, card) {
-            return false;
-        }
-        k += 1;
-    }
-    true
-}
-
+// goes
 // Whether an incoming card is in form.
 pub fn is_incoming(card: &[u8]) -> bool
     ensures { λ r. ⌜ r ≡ isIncoming (now (card .entry)) ⌝ }
 {
-    if !is_card(card) {
-        return false;
-    }
-    has_required(card)
+    let r = read_card(card);
+    r.in_form
 }

@@ -1,5 +1,5 @@
 -- From an incoming card every stored value is in form: so what is written of it fits its row, is a card as stored, and reads back.
-use mathlib.Core.Path.{_≡_, refl, sym, ap, subst, _∙_}
+use mathlib.Core.Path.{_≡_, refl, sym, ap, _∙_}
 use mathlib.Core.Bool.{Bool, true, false, cond, not, _&&_}
 use mathlib.Core.List.{List, [], _∷_, map}
 use mathlib.Core.Option.{Option, none, some}
@@ -28,6 +28,7 @@ use Rattle.card_attributes.specs.declared.Presence.the-variants.{Required, Opti
 use Rattle.card_attributes.specs.declared.Attribute.{Attribute}
 use Rattle.card_entries.proofs.EntryLaws.{a-name}
 use Rattle.card_attributes.proofs.TableLaws.{allRows, at-row, all-rows, name-some}
+use Rattle.card_incoming.proofs.ValueLaws.{required-at}
 use Rattle.card_laws.proofs.RoundTrip.{isOther, isDistinct, all-distinct, room, isInForm, isWithin, fits-room, value-short, is-short, is-stored, is-text, is-measured, reads-row, reads-card}
 
 -- the attribute's own test, by its name
@@ -53,11 +54,6 @@ found-fits (p ∷ ps) t n v e =
     by-name p ps n v (eqb (nameOf p) n) refl (and-left (isFitting p) (every isFitting ps) t)
     (found-fits ps (and-right (isFitting p) (every isFitting ps) t) n v)
     e
-
-required-at : (rs : List Attribute) (s : List ℕ) → T (hasRequired rs s) → (k : ℕ) (a : Attribute) (r : List Attribute) → drop k rs ≡ a ∷ r → T (isMet a s)
-required-at [] s t k a r e = absurd (at-row (λ (x : Attribute). false) [] tt k a r e)
-required-at (x ∷ rs) s t zero a r e = let h : x ≡ a = cc in subst (λ (y : Attribute). T (isMet y s)) h (and-left (isMet x s) (hasRequired rs s) t)
-required-at (x ∷ rs) s t (suc k) a r e = required-at rs s (and-right (isMet x s) (hasRequired rs s) t) k a r e
 
 -- the default card has each optional value, in form; computed for the table
 abbrev hasDefault : Presence → Attribute → Bool

@@ -1,15 +1,23 @@
 // Writes the stored card, which has all fifteen attributes, from an incoming one (document 01, Cards).
+use byte_bounds::Bounds;
+use card_attributes::CLM;
 use card_attributes::CLU;
+use card_attributes::IUT;
 use card_attributes::KCV;
 use card_attributes::KSL;
 use card_attributes::ROWS;
+use card_attributes::SBM;
+use card_attributes::ULM;
 use card_attributes::VND;
 ghost use mathlib.Core.Path.{_≡_};
+ghost use mathlib.Core.List.{[]};
 ghost use Prim.Native.Nat.{_+_, _≤_, _<_};
 ghost use lib.ListN.{length};
 ghost use Rattle.byte_strings.specs.Wrote.{Writes};
-ghost use Rattle.card_entries.specs.Entries.{entryBytes};
-ghost use Rattle.card_stored.specs.Stored.{defaultCard, storedValue, storedCard, inRow};
+ghost use Rattle.byte_strings.specs.Texts.{text};
+ghost use Rattle.card_entries.specs.Entries.{entryBytes, orElse, valueOf};
+ghost use Rattle.card_incoming.specs.Incoming.{IsValue, AreValues};
+ghost use Rattle.card_stored.specs.Stored.{loadValues, defaultCard, storedValue, storedCard, inRow};
 
 // Writes an entry.
 fn put_entry(dst: &mut [u8], at: usize, name: u32, v: &[u8]) -> usize
@@ -26,6 +34,7 @@ fn put_entry(dst: &mut [u8], at: usize, name: u32, v: &[u8]) -> usize
     byte_strings::put_byte(dst, b, b';')
 }
 
+// goes
 // The value that is stored under a name: the engine's own, else the incoming card's, else the default card's.
 fn stored_value<'a>(
     name: u32,
@@ -61,6 +70,7 @@ fn stored_value<'a>(
     card_entries::value_or(card, default, name)
 }
 
+// goes
 // Writes the stored card from the start on.
 fn put_card<'a>(
     dst: &mut [u8],
@@ -99,6 +109,7 @@ pub struct Stored {
     pub length: usize,
 }
 
+// goes
 // The card that is stored of an incoming one.
 pub fn write_card<'a>(
     card: &'a [u8],
@@ -128,6 +139,101 @@ pub fn write_card<'a>(
     let n = put_card(&mut out, card, clu, kcv, ksl, vnd);
     Stored {
         card: out,
+        length: n,
+    }
+}
+
+// The value of the default card under a name; no byte, where it has none.
+fn default_value<'a>(name: u32, default: &'a [u8]) -> &'a [u8]
+    requires { ⌜ now default ≡ defaultCard ⌝ }
+    ensures { λ r. ⌜ now r ≡ orElse (valueOf name defaultCard) [] ⌝ }
+{
+    match name {
+        CLM => &default[3..11],
+        IUT => &default[15..31],
+        SBM => &default[35..39],
+        ULM => &default[43..52],
+        _ => &default[0..0],
+    }
+}
+
+// The value that a load stores under a name: the engine's own, else the incoming card's, else the default card's.
+fn load_value<'a>(
+    name: u32,
+    card: &'a [u8],
+    bounds: Bounds,
+    default: &'a [u8],
+    zero: &'a [u8],
+    check: &'a [u8],
+    slot: &'a [u8],
+) -> &'a [u8]
+    requires { ⌜ IsValue (now card) name bounds × (now default ≡ defaultCard) × (now zero ≡ text "0") ⌝ }
+    ensures { λ r. ⌜ now r
+        ≡ storedValue (now (card .entry)) (loadValues (now (check .entry)) (now (slot .entry))) name ⌝ }
+{
+    if name == CLU {
+        return zero;
+    }
+    if name == KCV {
+        return check;
+    }
+    if name == KSL {
+        return slot;
+    }
+    if name == VND {
+        return zero;
+    }
+    if bounds.start == 0 {
+        return default_value(name, default);
+    }
+    byte_bounds::part(card, bounds)
+}
+
+// Writes the card that a load stores from the start on.
+fn put_stored<'a>(
+    dst: &mut [u8],
+    card: &'a [u8],
+    values: [Bounds; 15],
+    check: &'a [u8],
+    slot: &'a [u8],
+) -> usize
+    requires { ⌜ AreValues values (now card)
+        × (length (storedCard (now card) (loadValues (now check) (now slot))) ≤ length (now dst)) ⌝ }
+    ensures { λ r. ⌜ Writes dst 0
+        (storedCard (now (card .entry)) (loadValues (now (check .entry)) (now (slot .entry)))) r ⌝ }
+{
+    let default = b"CLMFFFFFFFF;IUT20380119T031407Z;SBMFFFF;ULM999999999;";
+    let zero = b"0";
+    let mut at = 0;
+    let mut k = 0;
+    while k < ROWS {
+        let a = card_attributes::row(k);
+        let name = a.0;
+        let v = load_value(name, card, values[k], default, zero, check, slot);
+        at = put_entry(dst, at, name, v);
+        k += 1;
+    }
+    at
+}
+
+// The card that a load stores of an incoming one, its values at the bounds that were found.
+pub fn write_stored<'a>(
+    card: &'a [u8],
+    values: [Bounds; 15],
+    check: &'a [u8],
+    slot: &'a [u8],
+) -> Stored
+    requires { ⌜ AreValues values (now card)
+        × (length (storedCard (now card) (loadValues (now check) (now slot))) ≤ 256) ⌝ }
+    ensures { λ r. ⌜ r .card
+        ≡ inRow (storedCard (now (card .entry)) (loadValues (now (check .entry)) (now (slot .entry)))) ⌝ }
+    ensures measured { λ r. ⌜ r .length
+        ≡ length (storedCard (now (card .entry)) (loadValues (now (check .entry)) (now (slot .entry)))) ⌝ }
+{
+    let mut row = [0u8; 256];
+    let n = put_stored(&mut row, card, values, check, slot);
+    Stored {
+        card: row,
         length: n,
     }
 }

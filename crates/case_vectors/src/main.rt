@@ -175,11 +175,13 @@ fn show_records(kind: &[u8], s: &[u8]) -> bool {
 
 // Prints what is stored of an incoming card in slot KMC1, with the check value of 001 example 6.3.5.4.
 fn show_card(s: &[u8]) {
-    if !card_incoming::is_incoming(s) {
+    let read = card_incoming::read_card(s);
+    if !read.in_form {
         say(b"  refused (10)\n");
         return;
     }
-    let r = card_writer::write_card(s, b"0", b"92E101", b"KMC1", b"0");
+    let values = read.values;
+    let r = card_writer::write_stored(s, values, b"92E101", b"KMC1");
     let n = r.length;
     let card = r.card;
     say(b"  ");

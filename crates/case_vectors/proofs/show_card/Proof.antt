@@ -1,4 +1,5 @@
 -- `case_vectors::show_card` writes a card that fits its row.
+use Rattle.card_incoming.proofs.ValueLaws.{read-values}
 use Rattle.case_vectors.proofs.StoredLaws.{fits}
 use borrow.Author.Needs.{needs}
 use Rattle.case_vectors.proofs.show_card.Statement.{statement}
@@ -14,9 +15,7 @@ show-card-spec =
     (λ c. search needs)
     (λ c. search needs)
     (λ c. search needs)
-    (λ c. search needs)
-    (λ c. search needs)
-    (λ c κs. search fits)
+    (λ c κs. (search read-values, search fits))
     (λ c. search needs)
     (λ c κs. search needs)
     (λ c. search needs)
