@@ -1,13 +1,21 @@
 -- A part of a part, by its bounds.
 use Prim.Native.Nat.{ℕ, _+_, _-_, _≤_}
-use mathlib.Core.Path.{_≡_, refl, sym, ap, _∙_}
+use mathlib.Core.Path.{_≡_, sym, ap, subst, _∙_}
 use mathlib.Core.List.{List}
 use native.Mathlib.Omega.{arith}
 use lib.ListN.{length, take, drop, length-drop}
 use lib.Seq.{drop-drop, take-take, length-take-le}
 use Rattle.byte_strings.proofs.StringLaws.{drop-take}
-use Rattle.byte_bounds.specs.Bounds.{bytesIn, FitIn, inside}
+use Rattle.byte_bounds.specs.Bounds.{bytesIn, FitIn, Stands, inside}
 use Rattle.byte_bounds.specs.declared.Bounds.{Bounds}
+
+-- what was taken of a string is what stands there
+pub taken : (s : List ℕ) (b : Bounds) (v w : List ℕ) → w ≡ bytesIn s b → bytesIn s b ≡ v → w ≡ v
+taken s b v w p q = p ∙ q
+
+-- bounds that were handed on
+pub handed : (a b c : Bounds) → a ≡ b → b ≡ c → a ≡ c
+handed a b c p q = p ∙ q
 
 -- how long a part is
 pub length-in : (s : List ℕ) (a : Bounds) → FitIn (length s) a → length (bytesIn s a) ≡ a .end - a .start
@@ -30,3 +38,11 @@ inside-bytes s a b g =
     ∙ (sym (ap (take j) (drop-drop (b .start) (a .start) s))
     ∙ (sym (take-take j (m - b .start) (drop (b .start) (drop (a .start) s)) le)
     ∙ sym (ap (take j) (drop-take (b .start) m (drop (a .start) s)))))
+
+-- what stands in a part stands in the whole
+module _ (s : List ℕ) (a : Bounds) (f : FitIn (length s) a) (b : Bounds) where
+  pub part-fits : FitIn (length (bytesIn s a)) b → FitIn (a .end - a .start) b
+  part-fits g = subst (λ (n : ℕ). FitIn n b) (length-in s a f) g
+
+  pub stands-inside : (v : List ℕ) → Stands (bytesIn s a) b v → Stands s (inside a b) v
+  stands-inside v w = let g = part-fits (w .0) in (inside-fits (length s) a b f g, inside-bytes s a b g ∙ w .1)

@@ -1,23 +1,23 @@
--- The cases of names and of the search for one, each with what the code knows where it answers as premises.
+-- The cases of names, each with what the code knows where it answers as premises; and the value under a name.
 use mathlib.Core.Path.{_≡_, refl, sym, ap, _∙_}
 use mathlib.Core.Bool.{Bool, true, false, cond, not, _&&_, and-false, and-true}
 use mathlib.Core.List.{List, [], _∷_}
-use mathlib.Core.Option.{Option, none, some}
+use mathlib.Core.Option.{Option, some}
 use Prim.Native.Nat.{ℕ, _+_, _-_, _*_, _≤_, _<_}
 use native.Mathlib.Omega.{arith}
 use lib.Dec.{leb}
-use lib.ListN.{length, getD, take, drop, length-append, length-drop, drop-of-length-le, List·getD-eq-default}
+use lib.ListN.{length, getD, take, drop, length-append, length-drop, List·getD-eq-default}
 use lib.Seq.{drop-drop, length-take-le}
 use borrow.Author.Tests.{eq-eqb, ne-eqb, leb-true, not-true, not-false}
 use Rattle.byte_strings.specs.Strings.{run, isNot, allOf}
 use Rattle.byte_pieces.specs.Pieces.{pieces}
-use Rattle.byte_pieces.proofs.PieceLaws.{no-piece, next-piece}
+use Rattle.byte_pieces.proofs.PieceLaws.{next-piece}
 use Rattle.text_classes.specs.Classes.{isOf}
 use Rattle.text_classes.specs.declared.Class.the-variants.{Capital}
 use Rattle.card_attributes.specs.Table.{nameNumber}
-use Rattle.card_entries.specs.Entries.{isNamed, nameOf, valueIn, valueOf, between, Within, orElse, valueOr, entryBytes}
+use Rattle.card_entries.specs.Entries.{isNamed, nameOf, valueIn, valueOf, Within, entryBytes}
 use Rattle.card_entries.specs.declared.Found.{Found}
-use Rattle.card_entries.specs.declared.Found.the-variants.{At, Nothing}
+use Rattle.card_entries.specs.declared.Found.the-variants.{At}
 use Rattle.byte_strings.proofs.Flags.{and-first}
 use Rattle.byte_strings.proofs.StringLaws.{drop-take}
 
@@ -87,27 +87,16 @@ name-room s at e h k q =
     let l : length (take (e - at) (drop at s)) ≡ e - at = length-take-le (e - at) (drop at s) (omega (arith, length-drop at s)) in
     omega (arith, name-length (take (e - at) (drop at s)) q)
 
--- find
-module _ (s : List ℕ) (name : ℕ) where
-  pub no-name : name ≡ 0 → none ≡ valueOf name s
-  unfolding valueOf
-  no-name e = rw e
-
-  pub a-name : (name ≡ 0 → ⊥) → valueIn name (pieces 59 s) ≡ valueOf name s
-  unfolding valueOf
-  a-name o = rw (ne-eqb name 0 o)
+-- the value under a name is that of the first entry with the name
+pub a-name : (s : List ℕ) (name : ℕ) → (name ≡ 0 → ⊥) → valueIn name (pieces 59 s) ≡ valueOf name s
+unfolding valueOf
+a-name s name o = rw (ne-eqb name 0 o)
 
 -- z is the value that is looked for in what is left
 module _ (s : List ℕ) (at name : ℕ) (z : Option (List ℕ)) (v : valueIn name (pieces 59 (drop at s)) ≡ z) where
-  pub at-end : length s ≤ at → none ≡ z
-  at-end h = ap (λ (l : List ℕ). valueIn name (pieces 59 l)) (sym (drop-of-length-le s h)) ∙ v
-
   module _ (e : ℕ) (p : e ≡ at + run (isNot 59) (drop at s)) where
-    pub not-found : at < length s → length s ≤ e → none ≡ z
-    not-found k h = ap (valueIn name) (sym (no-piece 59 s at e p (omega arith) h)) ∙ v
-
     module _ (h : e < length s) (x : ℕ) (q : x ≡ nameOf (take (e - at) (drop at s))) where
-      pub found-here : x ≡ name → between s (At (at + 3) e) ≡ z
+      pub found-here : x ≡ name → some (take (e - (at + 3)) (drop (at + 3) s)) ≡ z
       found-here i =
           let y : valueIn name (pieces 59 (drop at s)) ≡ some (drop 3 (take (e - at) (drop at s))) = rw (next-piece 59 s at e p h, ← q, eq-eqb x name i) in
           ap some (sym (value-here s at e)) ∙ sym y ∙ v
@@ -116,10 +105,6 @@ module _ (s : List ℕ) (at name : ℕ) (z : Option (List ℕ)) (v : valueIn nam
       found-later i =
           let y : valueIn name (pieces 59 (drop at s)) ≡ valueIn name (pieces 59 (drop (e + 1) s)) = rw (next-piece 59 s at e p h, ← q, ne-eqb x name i) in
           sym y ∙ v
-
-module _ (s : List ℕ) (at e x name : ℕ) (k : e ≡ at + run (isNot 59) (drop at s)) (h : e < length s) (q : x ≡ nameOf (take (e - at) (drop at s))) (i : x ≡ name) (o : name ≡ 0 → ⊥) where
-  pub found-room : at + 3 ≤ e
-  found-room = name-room s at e h k (omega arith)
 
 -- the bounds that a search found
 module _ (n : ℕ) (f : Found) (w : Within n f) (a e : ℕ) (p : f ≡ At a e) where
@@ -131,29 +116,6 @@ module _ (n : ℕ) (f : Found) (w : Within n f) (a e : ℕ) (p : f ≡ At a e) w
 
   pub end-le : e ≤ n
   end-le = within-both .1
-
--- value
-module _ (s : List ℕ) (name : ℕ) (f : Found) (p : between s f ≡ valueOf name s) where
-  pub no-value : f ≡ Nothing → [] ≡ orElse (valueOf name s) []
-  no-value q = rw (← p, q)
-
-  pub a-value : (start end : ℕ) → f ≡ At start end → take (end - start) (drop start s) ≡ orElse (valueOf name s) []
-  a-value start end q = rw (← p, q)
-
--- value_or
-module _ (s t : List ℕ) (name : ℕ) (f : Found) (p : between s f ≡ valueOf name s) where
-  pub from-first : (a e : ℕ) → f ≡ At a e → take (e - a) (drop a s) ≡ valueOr name s t
-  unfolding valueOr
-  from-first a e q = rw (← p, q)
-
-  module _ (i : f ≡ Nothing) (g : Found) (q : between t g ≡ valueOf name t) where
-    pub from-second : (a e : ℕ) → g ≡ At a e → take (e - a) (drop a t) ≡ valueOr name s t
-    unfolding valueOr
-    from-second a e j = rw (← p, i, ← q, j)
-
-    pub from-neither : g ≡ Nothing → [] ≡ valueOr name s t
-    unfolding valueOr
-    from-neither j = rw (← p, i, ← q, j)
 
 -- an entry as it is written
 pub entry-length : (n : ℕ) (v : List ℕ) → length (entryBytes n v) ≡ length v + 4

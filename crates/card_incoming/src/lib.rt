@@ -134,12 +134,3 @@ pub fn read_card(card: &[u8]) -> Incoming
     read.in_form = has_required(values);
     read
 }
-
-// goes
-// Whether an incoming card is in form.
-pub fn is_incoming(card: &[u8]) -> bool
-    ensures { λ r. ⌜ r ≡ isIncoming (now (card .entry)) ⌝ }
-{
-    let r = read_card(card);
-    r.in_form
-}

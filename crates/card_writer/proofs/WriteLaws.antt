@@ -1,16 +1,15 @@
 -- How the stored card is written.
 use mathlib.Core.Path.{_≡_, sym, ap, _∙_}
 use mathlib.Core.List.{List, [], _∷_, _++_}
-use Prim.Native.Nat.{ℕ, _+_, _-_, _≤_}
+use Prim.Native.Nat.{ℕ, _+_, _≤_}
 use native.Mathlib.Omega.{arith}
 use lib.ListN.{length, drop, replicate, length-append, length-replicate}
 use lib.Seq.{sets}
-use borrow.Author.Tests.{ne-eqb}
 use Rattle.byte_strings.specs.Wrote.{Wrote}
 use Rattle.byte_strings.proofs.Writes.{then, from-start, sets-append}
-use Rattle.card_entries.specs.Entries.{nameBytes, entryBytes, valueOr}
-use Rattle.card_attributes.specs.Table.{CLU, KCV, KSL, VND, table, rows, name}
-use Rattle.card_stored.specs.Stored.{EngineValues, inRow, cardBytes, storedValue, defaultCard}
+use Rattle.card_entries.specs.Entries.{nameBytes, entryBytes}
+use Rattle.card_attributes.specs.Table.{table, rows, name}
+use Rattle.card_stored.specs.Stored.{inRow, cardBytes}
 use Rattle.card_attributes.specs.declared.Attribute.{Attribute}
 use Rattle.card_writer.proofs.ListLaws.{drop-replicate}
 use Rattle.card_attributes.proofs.TableLaws.{table-end}
@@ -21,33 +20,7 @@ pub entry-written : {d e f g v : List ℕ} {a b c r : ℕ} (n : ℕ) → Wrote d
 unfolding entryBytes
 entry-written n p q s = then p (then q s)
 
--- stored_value
-module _ (card clu kcv ksl vnd : List ℕ) (n : ℕ) where
-  abbrev own : EngineValues
-  own = record { clu = clu; kcv = kcv; ksl = ksl; vnd = vnd }
-
-  pub value-clu : n ≡ CLU → clu ≡ storedValue card own n
-  unfolding storedValue
-  value-clu e = rw e
-
-  pub value-kcv : n ≡ KCV → kcv ≡ storedValue card own n
-  unfolding storedValue
-  value-kcv e = rw e
-
-  pub value-ksl : n ≡ KSL → ksl ≡ storedValue card own n
-  unfolding storedValue
-  value-ksl e = rw e
-
-  pub value-vnd : n ≡ VND → vnd ≡ storedValue card own n
-  unfolding storedValue
-  value-vnd e = rw e
-
-  module _ (a : n ≡ CLU → ⊥) (b : n ≡ KCV → ⊥) (c : n ≡ KSL → ⊥) (d : n ≡ VND → ⊥) where
-    pub value-card : (other v : List ℕ) → other ≡ defaultCard → v ≡ valueOr n card other → v ≡ storedValue card own n
-    unfolding storedValue
-    value-card other v o p = rw (ne-eqb n CLU a, ne-eqb n KCV b, ne-eqb n KSL c, ne-eqb n VND d, p, o)
-
--- put_card: z is what comes of it all; the entries from the k-th attribute on are to be stored from `at` on
+-- put_stored: z is what comes of it all; the entries from the k-th attribute on are to be stored from `at` on
 module _ (f : ℕ → List ℕ) (d z : List ℕ) (at k : ℕ) (inv : sets d at (cardBytes (drop k table) f) ≡ z) where
   pub all-written : rows ≤ k → d ≡ z
   all-written h = sym (ap (λ (rs : List Attribute). sets d at (cardBytes rs f)) (table-end k h)) ∙ inv
@@ -72,7 +45,7 @@ module _ (f : ℕ → List ℕ) (at k m : ℕ) (inv : at + length (cardBytes (dr
     pub count-turn : (d g : List ℕ) (b : ℕ) → Wrote d at (entryBytes (name a) v) g b → b + length (cardBytes (drop (k + 1) table) f) ≡ m
     count-turn d g b w = omega (arith, here, w .next, entry-length (name a) v)
 
--- write_card
+-- write_stored
 module _ (xs e : List ℕ) (b : ℕ) (w : Wrote (replicate 256 0) 0 xs e b) where
   pub in-row : length xs ≤ 256 → e ≡ inRow xs
   unfolding inRow

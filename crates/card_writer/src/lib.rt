@@ -34,115 +34,6 @@ fn put_entry(dst: &mut [u8], at: usize, name: u32, v: &[u8]) -> usize
     byte_strings::put_byte(dst, b, b';')
 }
 
-// goes
-// The value that is stored under a name: the engine's own, else the incoming card's, else the default card's.
-fn stored_value<'a>(
-    name: u32,
-    card: &'a [u8],
-    default: &'a [u8],
-    clu: &'a [u8],
-    kcv: &'a [u8],
-    ksl: &'a [u8],
-    vnd: &'a [u8],
-) -> &'a [u8]
-    requires { ⌜ now default ≡ defaultCard ⌝ }
-    ensures { λ r. ⌜ now r ≡ storedValue (now (card .entry))
-        (record {
-          clu = now (clu .entry);
-          kcv = now (kcv .entry);
-          ksl = now (ksl .entry);
-          vnd = now (vnd .entry);
-        })
-        name ⌝ }
-{
-    if name == CLU {
-        return clu;
-    }
-    if name == KCV {
-        return kcv;
-    }
-    if name == KSL {
-        return ksl;
-    }
-    if name == VND {
-        return vnd;
-    }
-    card_entries::value_or(card, default, name)
-}
-
-// goes
-// Writes the stored card from the start on.
-fn put_card<'a>(
-    dst: &mut [u8],
-    card: &'a [u8],
-    clu: &'a [u8],
-    kcv: &'a [u8],
-    ksl: &'a [u8],
-    vnd: &'a [u8],
-) -> usize
-    requires { ⌜ length (storedCard (now card) (record { clu = now clu; kcv = now kcv; ksl = now ksl; vnd = now vnd }))
-        ≤ length (now dst) ⌝ }
-    ensures { λ r. ⌜ Writes dst 0 (storedCard (now (card .entry))
-        (record {
-          clu = now (clu .entry);
-          kcv = now (kcv .entry);
-          ksl = now (ksl .entry);
-          vnd = now (vnd .entry);
-        })) r ⌝ }
-{
-    let default = b"CLMFFFFFFFF;IUT20380119T031407Z;SBMFFFF;ULM999999999;";
-    let mut at = 0;
-    let mut k = 0;
-    while k < ROWS {
-        let a = card_attributes::row(k);
-        let name = a.0;
-        let v = stored_value(name, card, default, clu, kcv, ksl, vnd);
-        at = put_entry(dst, at, name, v);
-        k += 1;
-    }
-    at
-}
-
-// A card in 256 bytes, zero after its end, and how long it is.
-pub struct Stored {
-    pub card: [u8; 256],
-    pub length: usize,
-}
-
-// goes
-// The card that is stored of an incoming one.
-pub fn write_card<'a>(
-    card: &'a [u8],
-    clu: &'a [u8],
-    kcv: &'a [u8],
-    ksl: &'a [u8],
-    vnd: &'a [u8],
-) -> Stored
-    requires { ⌜ length (storedCard (now card) (record { clu = now clu; kcv = now kcv; ksl = now ksl; vnd = now vnd }))
-        ≤ 256 ⌝ }
-    ensures { λ r. ⌜ r .card ≡ inRow (storedCard (now (card .entry))
-        (record {
-          clu = now (clu .entry);
-          kcv = now (kcv .entry);
-          ksl = now (ksl .entry);
-          vnd = now (vnd .entry);
-        })) ⌝ }
-    ensures measured { λ r. ⌜ r .length ≡ length (storedCard (now (card .entry))
-        (record {
-          clu = now (clu .entry);
-          kcv = now (kcv .entry);
-          ksl = now (ksl .entry);
-          vnd = now (vnd .entry);
-        })) ⌝ }
-{
-    let mut out = [0u8; 256];
-    let n = put_card(&mut out, card, clu, kcv, ksl, vnd);
-    Stored {
-        card: out,
-        length: n,
-    }
-}
-
 // The value of the default card under a name; no byte, where it has none.
 fn default_value<'a>(name: u32, default: &'a [u8]) -> &'a [u8]
     requires { ⌜ now default ≡ defaultCard ⌝ }
@@ -214,6 +105,12 @@ fn put_stored<'a>(
         k += 1;
     }
     at
+}
+
+// A card in 256 bytes, zero after its end, and how long it is.
+pub struct Stored {
+    pub card: [u8; 256],
+    pub length: usize,
 }
 
 // The card that a load stores of an incoming one, its values at the bounds that were found.

@@ -142,7 +142,13 @@ fn show_load_response(s: &[u8]) {
 
 fn show_key(s: &[u8]) {
     let key = record_types::read_key(s);
-    show_record(key.parsed, record_forms::key_in_form(s));
+    if !key.parsed {
+        show_record(false, false);
+        return;
+    }
+    let fields = key.fields;
+    let card = record_forms::read_key_card(s, fields);
+    show_record(true, card.in_form);
 }
 
 fn show_records(kind: &[u8], s: &[u8]) -> bool {

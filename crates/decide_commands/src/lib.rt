@@ -1,6 +1,7 @@
 // What is to be done once the message is right (document 01, "Questions in order", 8 to 18): the questions of its
 // command.
-use engine::Decision;
+use decide_parts::Decided;
+use decide_parts::without_parts;
 use engine::Refusal;
 use message_commands::Command;
 use row_types::SlotRow;
@@ -14,6 +15,7 @@ ghost use Rattle.row_index.specs.Found.{AreKeys};
 ghost use Rattle.engine.specs.Requests.{isOneOfTen};
 ghost use Rattle.engine.specs.Questions.{Call};
 ghost use Rattle.engine.specs.Decisions.{decisionFor};
+ghost use Rattle.decide_parts.specs.Parts.{IsDecided};
 
 // By the command; the last arm is never reached.
 pub fn decide_command(
@@ -24,14 +26,14 @@ pub fn decide_command(
     register_count: usize,
     supplement: Supplement,
     payload: &[u8],
-) -> Decision
+) -> Decided
     requires { ⌜ («slot_count» ≤ 8) × («register_count» ≤ 32) × (isOneOfTen command ≡ true) ⌝ }
     ensures { λ d. ⌜ ((c : Call) → c .slots ≡ take «slot_count» slots
         → AreKeys (take «register_count» keys) (c .registers) → c .supplement ≡ supplement
-        → d ≡ decisionFor c command (valuesOf (now (payload .entry)))) ⌝ }
+        → IsDecided d (decisionFor c command (valuesOf (now (payload .entry)))) (now (payload .entry))) ⌝ }
 {
     match command {
-        Command::RS => decide_slots::decide_reset(payload),
+        Command::RS => without_parts(decide_slots::decide_reset(payload)),
         Command::KC => decide_sessions::decide_pend(slots, slot_count, supplement, payload),
         Command::KR => decide_sessions::decide_open(slots, slot_count, supplement, payload),
         Command::KL => decide_loads::decide_load(
@@ -42,12 +44,12 @@ pub fn decide_command(
             supplement,
             payload,
         ),
-        Command::KF => decide_slots::decide_finish(slots, slot_count, payload),
-        Command::KX => decide_slots::decide_delete(slots, slot_count, payload),
-        Command::KD => decide_registers::decide_clear(keys, register_count, payload),
-        Command::GA => decide_registers::decide_show(keys, register_count, payload),
-        Command::GL => decide_slots::decide_enumerate(payload),
-        Command::KQ => decide_slots::decide_query(slots, slot_count, payload),
-        Command::Unknown => Decision::Refuse(Refusal::UnknownHeader),
+        Command::KF => without_parts(decide_slots::decide_finish(slots, slot_count, payload)),
+        Command::KX => without_parts(decide_slots::decide_delete(slots, slot_count, payload)),
+        Command::KD => without_parts(decide_registers::decide_clear(keys, register_count, payload)),
+        Command::GA => without_parts(decide_registers::decide_show(keys, register_count, payload)),
+        Command::GL => without_parts(decide_slots::decide_enumerate(payload)),
+        Command::KQ => without_parts(decide_slots::decide_query(slots, slot_count, payload)),
+        Command::Unknown => decide_parts::refuse(Refusal::UnknownHeader),
     }
 }

@@ -1,5 +1,7 @@
 // SM?KL, which loads a key (document 01, "Questions in order", 8 and on): its questions in turn, and the first no
 // decides.
+use byte_bounds::Bounds;
+use decide_parts::Decided;
 use decide_payloads::TwoTexts;
 use engine::Decision;
 use engine::Refusal;
@@ -14,70 +16,83 @@ ghost use Prim.Native.Nat.{_≤_};
 ghost use lib.ListN.{take};
 ghost use Rattle.field_values.specs.Values.{valuesOf};
 ghost use Rattle.message_commands.specs.declared.Command.the-variants.{KL};
-ghost use Rattle.record_types.specs.KeyRecords.{keyInForm};
+ghost use Rattle.card_incoming.specs.Incoming.{isIncoming, AreValues};
 ghost use Rattle.row_types.specs.declared.RegisterRow.{RegisterRow};
 ghost use Rattle.row_index.specs.Found.{AreKeys};
-ghost use Rattle.engine.specs.Requests.{cardIn};
-ghost use Rattle.engine.specs.Questions.{Call, slotNamed, firstNo};
+ghost use Rattle.engine.specs.Questions.{Call, firstNo};
 ghost use Rattle.engine.specs.Answers.{cardPlace};
 ghost use Rattle.engine.specs.Decisions.{decided, decisionFor};
 ghost use Rattle.engine.specs.declared.Decision.the-variants.{Load};
-ghost use Rattle.decide_questions.specs.CommandQuestions.{storeQuestions, loadQuestions};
+ghost use Rattle.decide_payloads.specs.Payloads.{BothTexts};
+ghost use Rattle.decide_parts.specs.Parts.{IsDecided};
+ghost use Rattle.decide_questions.specs.CommandQuestions.{storeQuestions};
 
-// SM?KL: questions 16 and 17.
+// SM?KL: questions 16 and 17, of its card, with the bounds of the card's values.
 fn decide_store(
     keys: [u64; 32],
     register_count: usize,
     supplement: Supplement,
-    r: &[u8],
+    card: &[u8],
+    values: [Bounds; 15],
 ) -> Decision
-    requires { ⌜ («register_count» ≤ 32) × (keyInForm (now r) ≡ true) ⌝ }
+    requires { ⌜ («register_count» ≤ 32) × ((isIncoming (now card) ≡ true) × AreValues values (now card)) ⌝ }
     ensures { λ d. ⌜ ((R : List RegisterRow) → AreKeys (take «register_count» keys) R
-        → d ≡ decided (firstNo (storeQuestions R supplement (now (r .entry))))
-        (Load (cardPlace (cardIn (now (r .entry))) R))) ⌝ }
+        → d ≡ decided (firstNo (storeQuestions R supplement (now (card .entry))))
+        (Load (cardPlace (now (card .entry)) R))) ⌝ }
 {
     if !decide_records::has_passed(supplement) {
         return Decision::Refuse(Refusal::CheckFailed);
     }
-    let store = decide_records::store_place(keys, register_count, r);
+    let store = decide_records::store_place(keys, register_count, card, values);
     let Place::At(i) = store else {
         return Decision::Refuse(Refusal::NoFreeRegister);
     };
     Decision::Load(i)
 }
 
-// SM?KL, once its fields are right: s is the slot's name, r the record.
+// SM?KL, once its fields are right: slot and record stand within the bounds.
 fn decide_key(
     slots: [SlotRow; 8],
     slot_count: usize,
     keys: [u64; 32],
     register_count: usize,
     supplement: Supplement,
-    s: &[u8],
-    r: &[u8],
-) -> Decision
-    requires { ⌜ («slot_count» ≤ 8) × («register_count» ≤ 32) ⌝ }
-    ensures { λ d. ⌜ ((R : List RegisterRow) → AreKeys (take «register_count» keys) R
-        → d ≡ decided
-        (firstNo (loadQuestions (take «slot_count» slots) R supplement (now (s .entry)) (now (r .entry))
-        (slotNamed (now (s .entry)) (take «slot_count» slots))))
-        (Load (cardPlace (cardIn (now (r .entry))) R))) ⌝ }
+    payload: &[u8],
+    slot: Bounds,
+    at: Bounds,
+) -> Decided
+    requires { ⌜ («slot_count» ≤ 8) × ((«register_count» ≤ 32) × BothTexts (now payload) slot at) ⌝ }
+    ensures { λ d. ⌜ ((c : Call) → c .slots ≡ take «slot_count» slots
+        → AreKeys (take «register_count» keys) (c .registers) → c .supplement ≡ supplement
+        → IsDecided d (decisionFor c KL (valuesOf (now (payload .entry)))) (now (payload .entry))) ⌝ }
 {
-    if !record_types::parses_key(r) {
-        return Decision::Refuse(Refusal::BadRecord);
+    let start = at.start;
+    let end = at.end;
+    let r = &payload[start..end];
+    let key = record_types::read_key(r);
+    if !key.parsed {
+        return decide_parts::refuse(Refusal::BadRecord);
     }
-    if !record_forms::key_in_form(r) {
-        return Decision::Refuse(Refusal::BadForm);
+    let fields = key.fields;
+    let read = record_forms::read_key_card(r, fields);
+    if !read.in_form {
+        return decide_parts::refuse(Refusal::BadForm);
     }
-    let place = slot_tables::slot_place(slots, slot_count, s);
+    let from = slot.start;
+    let to = slot.end;
+    let place = slot_tables::slot_place(slots, slot_count, &payload[from..to]);
     let Place::At(k) = place else {
-        return Decision::Refuse(Refusal::UnknownSlot);
+        return decide_parts::refuse(Refusal::UnknownSlot);
     };
     let row = slots[k];
     if !slot_tests::has_state(row, SlotState::Loading) {
-        return Decision::Refuse(Refusal::WrongState);
+        return decide_parts::refuse(Refusal::WrongState);
     }
-    decide_store(keys, register_count, supplement, r)
+    let values = read.values;
+    let card = byte_bounds::part(r, fields[2]);
+    let decision = decide_store(keys, register_count, supplement, card, values);
+    let parts = decide_parts::load_parts(slot, byte_bounds::inside(at, fields[2]), values);
+    Decided { decision, parts }
 }
 
 // SM?KL.
@@ -88,11 +103,11 @@ pub fn decide_load(
     register_count: usize,
     supplement: Supplement,
     payload: &[u8],
-) -> Decision
+) -> Decided
     requires { ⌜ («slot_count» ≤ 8) × («register_count» ≤ 32) ⌝ }
     ensures { λ d. ⌜ ((c : Call) → c .slots ≡ take «slot_count» slots
         → AreKeys (take «register_count» keys) (c .registers) → c .supplement ≡ supplement
-        → d ≡ decisionFor c KL (valuesOf (now (payload .entry)))) ⌝ }
+        → IsDecided d (decisionFor c KL (valuesOf (now (payload .entry)))) (now (payload .entry))) ⌝ }
 {
     let f = decide_payloads::two_texts(payload);
     let TwoTexts::At {
@@ -102,9 +117,21 @@ pub fn decide_load(
         to,
     } = f
     else {
-        return Decision::Refuse(Refusal::BadFields);
+        return decide_parts::refuse(Refusal::BadFields);
     };
-    let s = &payload[start..end];
-    let r = &payload[from..to];
-    decide_key(slots, slot_count, keys, register_count, supplement, s, r)
+    let slot = Bounds { start, end };
+    let at = Bounds {
+        start: from,
+        end: to,
+    };
+    decide_key(
+        slots,
+        slot_count,
+        keys,
+        register_count,
+        supplement,
+        payload,
+        slot,
+        at,
+    )
 }

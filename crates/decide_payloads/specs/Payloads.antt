@@ -1,10 +1,13 @@
 -- The fields that a command takes out of its payload, and the code's readings of them.
 use Prim.Native.Nat.{ℕ, _-_, _≤_}
-use mathlib.Core.Bool.{cond}
+use mathlib.Core.Path.{_≡_}
+use mathlib.Core.Bool.{true, cond}
 use mathlib.Core.List.{List}
 use mathlib.Core.Option.{Option, none, some}
 use lib.ListN.{take, drop}
-use Rattle.field_values.specs.Values.{Value}
+use Rattle.byte_bounds.specs.Bounds.{Stands}
+use Rattle.byte_bounds.specs.declared.Bounds.{Bounds}
+use Rattle.field_values.specs.Values.{Value, valuesOf}
 use Rattle.message_commands.specs.declared.Command.the-variants.{KL, KF, KD}
 use Rattle.engine.specs.Requests.{areFieldsOf, firstText, secondText, registerIn}
 use Rattle.decide_payloads.specs.declared.Count.{Count}
@@ -45,3 +48,14 @@ secondBetween p texts.Nothing = none
 abbrev pub TwoWithin : ℕ → TwoTexts → Type 0
 TwoWithin n (texts.At start end from to) = ((start ≤ end) × (end ≤ n)) × ((from ≤ to) × (to ≤ n))
 TwoWithin n texts.Nothing = Unit
+
+-- the payload s is just one string, within the bounds
+pub record OnlyText (s : List ℕ) (b : Bounds) : Type 0 where
+  pub typed : areFieldsOf KF (valuesOf s) ≡ true
+  pub stands : Stands s b (firstText (valuesOf s))
+
+-- the payload s is just two strings, within the bounds of each
+pub record BothTexts (s : List ℕ) (a b : Bounds) : Type 0 where
+  pub typed : areFieldsOf KL (valuesOf s) ≡ true
+  pub first-stands : Stands s a (firstText (valuesOf s))
+  pub second-stands : Stands s b (secondText (valuesOf s))

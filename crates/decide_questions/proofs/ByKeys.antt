@@ -28,8 +28,8 @@ module _ (keys : List ℕ) (R : List RegisterRow) (w : AreKeys keys R) where
   pub placed-by : (g k : List ℕ) (p : Place) → ((Q : List RegisterRow) → AreKeys keys Q → placeOf p ≡ storePlace g k Q) → placeOf p ≡ storePlace g k R
   placed-by g k p all = all R w
 
-  pub stored-by : (x : Supplement) (r : List ℕ) (d : Decision) → ((Q : List RegisterRow) → AreKeys keys Q → d ≡ decided (firstNo (storeQuestions Q x r)) (Load (cardPlace (cardIn r) Q)))
-      → d ≡ decided (firstNo (storeQuestions R x r)) (Load (cardPlace (cardIn r) R))
-  stored-by x r d all = all R w
+  pub stored-by : (x : Supplement) (card r : List ℕ) (d : Decision) → ((Q : List RegisterRow) → AreKeys keys Q → d ≡ decided (firstNo (storeQuestions Q x card)) (Load (cardPlace card Q)))
+      → card ≡ cardIn r → d ≡ decided (firstNo (storeQuestions R x (cardIn r))) (Load (cardPlace (cardIn r) R))
+  stored-by x card r d all e = rw e at (all R w)
 
 pub ruleset byKeys = (filled-by, asked-by, placed-by, stored-by)

@@ -82,11 +82,11 @@ openQuestions S x r row =
     ∷ (hasState Pending row otherwise WrongState)
     ∷ responseQuestions x r row
 
--- SM?KL: questions 16 and 17
+-- SM?KL: questions 16 and 17, of its card
 abbrev pub storeQuestions : List RegisterRow → Supplement → List ℕ → List Question
-storeQuestions R x r =
+storeQuestions R x card =
     (eqb (x .passed) 1 otherwise CheckFailed)
-    ∷ (isPlace (storePlace (groupIn (cardIn r)) (revisionIn (cardIn r)) R) otherwise NoFreeRegister)
+    ∷ (isPlace (storePlace (groupIn card) (revisionIn card) R) otherwise NoFreeRegister)
     ∷ []
 
 -- SM?KL, once its fields are right
@@ -96,7 +96,7 @@ loadQuestions S R x s r row =
     ∷ (keyInForm r otherwise BadForm)
     ∷ (isPlace (slotPlace s S) otherwise UnknownSlot)
     ∷ (hasState Loading row otherwise WrongState)
-    ∷ storeQuestions R x r
+    ∷ storeQuestions R x (cardIn r)
 
 -- what the questions about a row come to: the refusal of the first no, else its place
 abbrev pub askedOf : Option Refusal → ℕ → Asked

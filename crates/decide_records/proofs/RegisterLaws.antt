@@ -8,16 +8,12 @@ use native.Mathlib.Omega.{arith}
 use lib.ListN.{length, getD, take}
 use lib.Seq.{length-take-le, getD-take}
 use borrow.Author.Tests.{le-leb, lt-leb}
-use Rattle.byte_strings.proofs.Flags.{and-first, and-second}
 use Rattle.text_decimals.specs.Decimals.{decimal}
-use Rattle.record_parser.specs.Records.{field}
-use Rattle.text_forms.specs.Forms.{inForm}
-use Rattle.text_forms.specs.declared.Form.the-variants.{Number, Digits, HexSome}
-use Rattle.card_attributes.specs.Table.{SGC, KRN, table}
+use Rattle.text_forms.specs.declared.Form.the-variants.{Number, Digits}
+use Rattle.card_attributes.specs.Table.{SGC, KRN, table, rows}
 use Rattle.card_attributes.specs.declared.Presence.the-variants.{Required}
 use Rattle.card_incoming.specs.Incoming.{isIncoming}
 use Rattle.card_laws.proofs.Incoming.{required-in-form}
-use Rattle.record_types.specs.KeyRecords.{bar, keyInForm}
 use Rattle.row_types.specs.Lists.{firstFrom}
 use Rattle.row_types.specs.Registers.{freeRegister}
 use Rattle.row_types.specs.Places.{placeOf}
@@ -27,34 +23,35 @@ use Rattle.row_types.specs.declared.RegisterRow.{RegisterRow}
 use Rattle.row_index.specs.Found.{isThe, AreKeys}
 use Rattle.row_index.proofs.KeyLaws.{Keyed, is-keyed}
 use Rattle.row_index.proofs.KeyReadings.{key-found, vacant-found, keys-counted, vacant-at}
-use Rattle.engine.specs.Requests.{cardIn}
 use Rattle.engine.specs.Questions.{storePlace, groupIn, revisionIn, isFilled}
 
--- the card in a record in form has an SGC and a KRN in form
-module _ (r : List ℕ) (h : keyInForm r ≡ true) where
-  card-keyed : Keyed (groupIn (cardIn r)) (revisionIn (cardIn r))
-  unfolding keyInForm table
-  card-keyed =
-      let s : isIncoming (cardIn r) ≡ true = and-first (isIncoming (cardIn r)) _ (and-second (inForm HexSome (field bar 1 r)) _ h) in
-      is-keyed _ _ (required-in-form (cardIn r) s 12 (SGC, Required, Digits 10) _ refl refl) (required-in-form (cardIn r) s 8 (KRN, Required, Number 1 1 9) _ refl refl)
+-- card_key: there are fifteen attributes
+pub rows-long : (k : ℕ) → k < 15 → k < rows
+rows-long k h = h
+
+-- an incoming card in form has an SGC and a KRN in form
+module _ (card : List ℕ) (s : isIncoming card ≡ true) where
+  card-keyed : Keyed (groupIn card) (revisionIn card)
+  unfolding table
+  card-keyed = is-keyed _ _ (required-in-form card s 12 (SGC, Required, Digits 10) _ refl refl) (required-in-form card s 8 (KRN, Required, Number 1 1 9) _ refl refl)
 
   -- card_key
-  pub group-short : (v : List ℕ) → v ≡ groupIn (cardIn r) → length v ≤ 10
+  pub group-short : (v : List ℕ) → v ≡ groupIn card → length v ≤ 10
   group-short v e = rw e (omega (arith, card-keyed .group-long))
 
-  pub revision-short : (v : List ℕ) → v ≡ revisionIn (cardIn r) → length v ≤ 10
+  pub revision-short : (v : List ℕ) → v ≡ revisionIn card → length v ≤ 10
   revision-short v e = rw e (omega (arith, card-keyed .revision-long))
 
   -- store_place
-  module _ (key : ℕ) (n : key ≡ decimal (groupIn (cardIn r)) * 10 + decimal (revisionIn (cardIn r))) (keys : List ℕ) (p : Place) (e : placeOf p ≡ firstFrom (isThe key) 0 keys)
+  module _ (key : ℕ) (n : key ≡ decimal (groupIn card) * 10 + decimal (revisionIn card)) (keys : List ℕ) (p : Place) (e : placeOf p ≡ firstFrom (isThe key) 0 keys)
       (R : List RegisterRow) (w : AreKeys keys R) where
-    pub store-held : (i : ℕ) → p ≡ At i → some i ≡ storePlace (groupIn (cardIn r)) (revisionIn (cardIn r)) R
+    pub store-held : (i : ℕ) → p ≡ At i → some i ≡ storePlace (groupIn card) (revisionIn card) R
     unfolding storePlace
-    store-held i o = sym (rw (key-found keys R w (groupIn (cardIn r)) (revisionIn (cardIn r)) card-keyed, ← n, ← e, o))
+    store-held i o = sym (rw (key-found keys R w (groupIn card) (revisionIn card) card-keyed, ← n, ← e, o))
 
-    pub store-vacant : p ≡ Nothing → (q : Place) → placeOf q ≡ firstFrom (isThe 0) 0 keys → placeOf q ≡ storePlace (groupIn (cardIn r)) (revisionIn (cardIn r)) R
+    pub store-vacant : p ≡ Nothing → (q : Place) → placeOf q ≡ firstFrom (isThe 0) 0 keys → placeOf q ≡ storePlace (groupIn card) (revisionIn card) R
     unfolding storePlace
-    store-vacant o q z = z ∙ sym (rw (key-found keys R w (groupIn (cardIn r)) (revisionIn (cardIn r)) card-keyed, ← n, ← e, o, vacant-found keys R w))
+    store-vacant o q z = z ∙ sym (rw (key-found keys R w (groupIn card) (revisionIn card) card-keyed, ← n, ← e, o, vacant-found keys R w))
 
 pub key-of : (g k g′ k′ : List ℕ) → g ≡ g′ → k ≡ k′ → (a b : ℕ) → a ≡ decimal g → b ≡ decimal k → a * 10 + b ≡ decimal g′ * 10 + decimal k′
 key-of g k g′ k′ p q a b u v = rw (← p, ← q, ← u, ← v) refl

@@ -1,22 +1,25 @@
 // The tests behind questions 11 to 18 (document 01, "Questions in order"): each judges one record, row or supplement,
 // or makes one search of a table.
-use card_attributes::KRN;
-use card_attributes::SGC;
+use byte_bounds::Bounds;
+use record_types::LoadResponse;
+use record_types::PublicKey;
 use row_types::Place;
 use row_types::SlotRow;
 use row_types::SlotState;
 use row_types::Supplement;
 ghost use mathlib.Core.Path.{_≡_};
 ghost use mathlib.Core.Bool.{true, _||_};
-ghost use mathlib.Core.List.{List, []};
+ghost use mathlib.Core.List.{List};
 ghost use Prim.Native.Nat.{_+_, _*_, _≤_};
 ghost use lib.Dec.{eqb};
 ghost use lib.ListN.{take};
 ghost use Rattle.byte_strings.specs.Strings.{sameBytes};
+ghost use Rattle.byte_bounds.specs.Bounds.{Stands};
 ghost use Rattle.text_decimals.specs.Decimals.{decimal};
-ghost use Rattle.record_identities.specs.Identities.{nameIn, fingerprintIn};
-ghost use Rattle.record_types.specs.KeyRecords.{keyInForm};
-ghost use Rattle.card_entries.specs.Entries.{valueOf, orElse};
+ghost use Rattle.record_identities.specs.Identities.{colon, nameIn, fingerprintIn};
+ghost use Rattle.record_parser.specs.Records.{field};
+ghost use Rattle.record_types.specs.KeyRecords.{IsPublicKey, IsResponse};
+ghost use Rattle.card_incoming.specs.Incoming.{isIncoming, AreValues};
 ghost use Rattle.text_timestamps.specs.Timestamps.{timestampOf, isLater};
 ghost use Rattle.row_types.specs.Slots.{hasState};
 ghost use Rattle.row_types.specs.declared.RegisterRow.{RegisterRow};
@@ -24,41 +27,61 @@ ghost use Rattle.row_types.specs.declared.SlotState.the-variants.{Pending, Load
 ghost use Rattle.row_types.specs.Places.{placeOf, PlaceWithin};
 ghost use Rattle.row_types.specs.Supplements.{ownIdentity};
 ghost use Rattle.row_index.specs.Found.{AreKeys};
-ghost use Rattle.engine.specs.Requests.{kmcIdentityIn, moduleIdentityIn, expiryIn, tvpIn, tagIn, cardIn};
+ghost use Rattle.engine.specs.Requests.{kmcIdentityIn, moduleIdentityIn, expiryIn, tvpIn, tagIn};
 ghost use Rattle.engine.specs.Questions.{isFilled, slotPlace, sessionPlace, storePlace, groupIn, revisionIn};
+ghost use Rattle.decide_records.specs.Identity.{HasKmcIdentity};
 
-// Question 11.
-pub fn is_not_expired(source: &[u8], clock: &[u8]) -> bool
+// Question 11: the expiry of a public key is later than the clock.
+pub fn is_not_expired(source: &[u8], key: PublicKey, clock: &[u8]) -> bool
+    requires { ⌜ IsPublicKey (key .fields) (key .kmc) (now source) ⌝ }
     ensures { λ b. ⌜ b ≡ isLater (timestampOf (expiryIn (now (source .entry)))) (timestampOf (now (clock .entry))) ⌝ }
 {
-    let expiry = text_timestamps::read_timestamp(record_parser::field(source, b'|', 3));
+    let fields = key.fields;
+    let expiry = text_timestamps::read_timestamp(byte_bounds::part(source, fields[3]));
     let now = text_timestamps::read_timestamp(clock);
     text_timestamps::is_later(expiry, now)
 }
 
-// The KMCID in the KMC identity of a record.
-pub fn kmcid_in<'a>(source: &'a [u8]) -> &'a [u8]
-    ensures { λ s. ⌜ now s ≡ nameIn (kmcIdentityIn (now (source .entry))) ⌝ }
+// The bounds, in a record, of a field of the KMC identity that is its first field.
+fn identity_part(source: &[u8], fields: [Bounds; 6], kmc: [Bounds; 6], number: usize) -> Bounds
+    requires { ⌜ HasKmcIdentity fields kmc (now source) × (number ≤ 4) ⌝ }
+    ensures { λ b. ⌜ Stands (now (source .entry)) b (field colon number (kmcIdentityIn (now (source .entry)))) ⌝ }
 {
-    record_parser::field(record_parser::field(source, b'|', 1), b':', 2)
+    byte_bounds::inside(fields[1], kmc[number])
 }
 
-// The place of the slot that a record names.
-pub fn known_place(slots: [SlotRow; 8], slot_count: usize, source: &[u8]) -> Place
-    requires { ⌜ «slot_count» ≤ 8 ⌝ }
+// Those of the KMCID.
+pub fn kmcid_bounds(source: &[u8], fields: [Bounds; 6], kmc: [Bounds; 6]) -> Bounds
+    requires { ⌜ HasKmcIdentity fields kmc (now source) ⌝ }
+    ensures { λ b. ⌜ Stands (now (source .entry)) b (nameIn (kmcIdentityIn (now (source .entry)))) ⌝ }
+{
+    identity_part(source, fields, kmc, 2)
+}
+
+// Those of the fingerprint.
+pub fn fingerprint_bounds(source: &[u8], fields: [Bounds; 6], kmc: [Bounds; 6]) -> Bounds
+    requires { ⌜ HasKmcIdentity fields kmc (now source) ⌝ }
+    ensures { λ b. ⌜ Stands (now (source .entry)) b (fingerprintIn (kmcIdentityIn (now (source .entry)))) ⌝ }
+{
+    identity_part(source, fields, kmc, 4)
+}
+
+// The place of the slot that a record names, in the KMC identity that is its first field.
+pub fn known_place(slots: [SlotRow; 8], slot_count: usize, source: &[u8], name: Bounds) -> Place
+    requires { ⌜ («slot_count» ≤ 8) × Stands (now source) name (nameIn (kmcIdentityIn (now source))) ⌝ }
     ensures { λ p. ⌜ placeOf p ≡ slotPlace (nameIn (kmcIdentityIn (now (source .entry)))) (take «slot_count» slots) ⌝ }
     ensures within { λ p. ⌜ PlaceWithin «slot_count» p ⌝ }
 {
-    slot_tables::slot_place(slots, slot_count, kmcid_in(source))
+    slot_tables::slot_place(slots, slot_count, byte_bounds::part(source, name))
 }
 
 // Question 13: that place, else the lowest free row.
-pub fn session_place(slots: [SlotRow; 8], slot_count: usize, source: &[u8]) -> Place
-    requires { ⌜ «slot_count» ≤ 8 ⌝ }
+pub fn session_place(slots: [SlotRow; 8], slot_count: usize, source: &[u8], name: Bounds) -> Place
+    requires { ⌜ («slot_count» ≤ 8) × Stands (now source) name (nameIn (kmcIdentityIn (now source))) ⌝ }
     ensures { λ p. ⌜ placeOf p
         ≡ sessionPlace (nameIn (kmcIdentityIn (now (source .entry)))) (take «slot_count» slots) ⌝ }
 {
-    let known = known_place(slots, slot_count, source);
+    let known = known_place(slots, slot_count, source, name);
     if let Place::At(k) = known {
         return Place::At(k);
     }
@@ -72,68 +95,72 @@ pub fn has_passed(supplement: Supplement) -> bool
     supplement.passed == 1
 }
 
-// Question 15: the module identity is the module's own.
-pub fn is_own_module(source: &[u8], supplement: Supplement) -> bool
+// Question 15: the module identity of a load response is the module's own.
+pub fn is_own_module(source: &[u8], answer: LoadResponse, supplement: Supplement) -> bool
+    requires { ⌜ IsResponse (answer .fields) (answer .kmc) (answer .module) (now source) ⌝ }
     ensures { λ b. ⌜ b ≡ sameBytes (moduleIdentityIn (now (source .entry))) (ownIdentity supplement) ⌝ }
 {
+    let fields = answer.fields;
+    let identity = byte_bounds::part(source, fields[2]);
     let n = supplement.identity_length;
-    let identity = supplement.identity;
+    let own = supplement.identity;
     if 128 < n {
-        return byte_strings::same_bytes(record_parser::field(source, b'|', 2), &identity);
+        return byte_strings::same_bytes(identity, &own);
     }
-    byte_strings::same_bytes(record_parser::field(source, b'|', 2), &identity[..n])
+    byte_strings::same_bytes(identity, &own[..n])
 }
 
 // Then the fingerprint is the slot's.
-pub fn has_fingerprint(source: &[u8], row: SlotRow) -> bool
+pub fn has_fingerprint(source: &[u8], answer: LoadResponse, row: SlotRow) -> bool
+    requires { ⌜ IsResponse (answer .fields) (answer .kmc) (answer .module) (now source) ⌝ }
     ensures { λ b. ⌜ b ≡ sameBytes (fingerprintIn (kmcIdentityIn (now (source .entry)))) (row .fingerprint) ⌝ }
 {
-    byte_strings::same_bytes(
-        record_parser::field(record_parser::field(source, b'|', 1), b':', 4),
-        &row.fingerprint,
-    )
+    let fields = answer.fields;
+    let kmc = answer.kmc;
+    let identity = byte_bounds::part(source, fields[1]);
+    byte_strings::same_bytes(byte_bounds::part(identity, kmc[4]), &row.fingerprint)
 }
 
 // The TVP is the slot's.
-pub fn has_tvp(source: &[u8], row: SlotRow) -> bool
+pub fn has_tvp(source: &[u8], answer: LoadResponse, row: SlotRow) -> bool
+    requires { ⌜ IsResponse (answer .fields) (answer .kmc) (answer .module) (now source) ⌝ }
     ensures { λ b. ⌜ b ≡ sameBytes (tvpIn (now (source .entry))) (row .tvp) ⌝ }
 {
-    byte_strings::same_bytes(record_parser::field(source, b'|', 3), &row.tvp)
+    let fields = answer.fields;
+    byte_strings::same_bytes(byte_bounds::part(source, fields[3]), &row.tvp)
 }
 
 // The tag is the one expected.
-pub fn has_tag(source: &[u8], supplement: Supplement) -> bool
+pub fn has_tag(source: &[u8], answer: LoadResponse, supplement: Supplement) -> bool
+    requires { ⌜ IsResponse (answer .fields) (answer .kmc) (answer .module) (now source) ⌝ }
     ensures { λ b. ⌜ b ≡ sameBytes (tagIn (now (source .entry))) (supplement .tag) ⌝ }
 {
-    byte_strings::same_secret(record_parser::field(source, b'|', 4), &supplement.tag)
+    let fields = answer.fields;
+    byte_strings::same_secret(byte_bounds::part(source, fields[4]), &supplement.tag)
 }
 
-// SGC, or KRN, of the card in a record.
-pub fn value_in<'a>(source: &'a [u8], name: u32) -> &'a [u8]
-    ensures { λ v. ⌜ now v ≡ orElse (valueOf name (cardIn (now (source .entry)))) [] ⌝ }
+// The key of an incoming card in form as a number: SGC, ten digits, and KRN, one, at the bounds of their values.
+fn card_key(card: &[u8], values: [Bounds; 15]) -> u64
+    requires { ⌜ (isIncoming (now card) ≡ true) × AreValues values (now card) ⌝ }
+    ensures { λ n. ⌜ n ≡ decimal (groupIn (now (card .entry))) * 10 + decimal (revisionIn (now (card .entry))) ⌝ }
 {
-    card_entries::value(record_parser::field(source, b'|', 2), name)
-}
-
-// The key of the card in a record in form as a number: SGC, ten digits, and KRN, one.
-fn card_key(source: &[u8]) -> u64
-    requires { ⌜ keyInForm (now source) ≡ true ⌝ }
-    ensures { λ n. ⌜ n ≡ decimal (groupIn (cardIn (now (source .entry)))) * 10
-        + decimal (revisionIn (cardIn (now (source .entry)))) ⌝ }
-{
-    let group = text_decimals::decimal(value_in(source, SGC));
-    let revision = text_decimals::decimal(value_in(source, KRN));
+    let group = text_decimals::decimal(byte_bounds::part(card, values[12]));
+    let revision = text_decimals::decimal(byte_bounds::part(card, values[8]));
     group * 10 + revision
 }
 
 // Question 17: the register that holds the card's SGC and KRN, else the lowest free one.
-pub fn store_place(keys: [u64; 32], register_count: usize, source: &[u8]) -> Place
-    requires { ⌜ («register_count» ≤ 32) × (keyInForm (now source) ≡ true) ⌝ }
+pub fn store_place(
+    keys: [u64; 32],
+    register_count: usize,
+    card: &[u8],
+    values: [Bounds; 15],
+) -> Place
+    requires { ⌜ («register_count» ≤ 32) × ((isIncoming (now card) ≡ true) × AreValues values (now card)) ⌝ }
     ensures { λ p. ⌜ ((R : List RegisterRow) → AreKeys (take «register_count» keys) R
-        → placeOf p
-        ≡ storePlace (groupIn (cardIn (now (source .entry)))) (revisionIn (cardIn (now (source .entry)))) R) ⌝ }
+        → placeOf p ≡ storePlace (groupIn (now (card .entry))) (revisionIn (now (card .entry))) R) ⌝ }
 {
-    let held = register_searches::key_place(keys, register_count, card_key(source));
+    let held = register_searches::key_place(keys, register_count, card_key(card, values));
     if let Place::At(k) = held {
         return Place::At(k);
     }

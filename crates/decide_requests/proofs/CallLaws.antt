@@ -24,7 +24,8 @@ use Rattle.engine.specs.Questions.{Call, areCounts, tableQuestions, messageQues
 use Rattle.engine.specs.Calls.{callIn}
 use Rattle.engine.specs.Decisions.{decisionFor, decisionOf}
 use Rattle.engine.specs.declared.Refusal.the-variants.{RowCounts, ShortBuffer, UnsoundRows, BadSupplement, BadFrame, BadChecksum, UnknownHeader}
-use Rattle.engine.specs.declared.Decision.{Decision}
+use Rattle.decide_parts.specs.Parts.{IsDecided}
+use Rattle.decide_parts.specs.declared.Decided.{Decided}
 use Rattle.engine.specs.declared.Decision.the-variants.{Refuse}
 use Rattle.engine.proofs.DecisionLaws.{tables-refused, message-refused, command-decides}
 
@@ -76,9 +77,10 @@ module _ (slots : List SlotRow) (n m : ℕ) (x : Supplement) (q : List ℕ) (roo
               pub header-refused : not f ≡ true → Refuse UnknownHeader ≡ decisionOf call
               header-refused g = message-refused call tables-right UnknownHeader (rw (← u, not-false d k, ← v, not-false e l, its-command, ← z, not-true f g))
 
-              pub command-decided : not f ≡ false → (payload : List ℕ) → payload ≡ payloadOf q → (keys : List ℕ) (g : Decision)
-                  → ((b : Call) → b .slots ≡ take n slots → AreKeys keys (b .registers) → b .supplement ≡ x → g ≡ decisionFor b command (valuesOf payload))
-                  → AreKeys keys (take m R) → g ≡ decisionOf call
+              pub command-decided : not f ≡ false → (payload : List ℕ) → payload ≡ payloadOf q → (keys : List ℕ) (g : Decided)
+                  → ((b : Call) → b .slots ≡ take n slots → AreKeys keys (b .registers) → b .supplement ≡ x → IsDecided g (decisionFor b command (valuesOf payload)) payload)
+                  → AreKeys keys (take m R) → IsDecided g (decisionOf call) (payloadOf q)
               command-decided i′ payload same keys g all found =
                   let t : firstNo (messageQuestions q) ≡ none = rw (← u, not-false d k, ← v, not-false e l, its-command, ← z, not-false f i′) in
-                  command-decides call tables-right t g (rw (its-command, ← same) (all call refl found refl))
+                  let is = all call refl found refl in
+                  record { decision-is = command-decides call tables-right t (g .decision) (rw (its-command, ← same) (is .decision-is)); parts-stand = rw (← same) (is .parts-stand) }

@@ -1,6 +1,6 @@
 // What is to be done with a request (document 01, "Questions in order"): questions 1 to 7 are asked in turn, and then
 // those of its command.
-use engine::Decision;
+use decide_parts::Decided;
 use engine::Refusal;
 use message_commands::Command;
 use row_types::SlotRow;
@@ -15,6 +15,8 @@ ghost use Rattle.engine.specs.Requests.{isOneOfTen};
 ghost use Rattle.engine.specs.Questions.{areCounts};
 ghost use Rattle.engine.specs.Calls.{callIn};
 ghost use Rattle.engine.specs.Decisions.{decisionOf};
+ghost use Rattle.message_frames.specs.Frames.{payloadOf};
+ghost use Rattle.decide_parts.specs.Parts.{IsDecided};
 ghost use Rattle.decide_requests.specs.Found.{IsFound};
 
 // Question 7: whether the header is one of the ten.
@@ -46,35 +48,36 @@ pub fn decide(
     supplement: Supplement,
     request: &[u8],
     room: usize,
-) -> Decision
+) -> Decided
     ensures { λ d. ⌜ ((R : List RegisterRow)
         → (areCounts «slot_count» «register_count» ≡ true
         → IsFound sound keys (take «slot_count» slots) (take «register_count» R) «register_count»)
-        → d ≡ decisionOf (callIn (tablesWith slots «slot_count» R «register_count»)
-        supplement (now (request .entry)) room)) ⌝ }
+        → IsDecided d
+        (decisionOf (callIn (tablesWith slots «slot_count» R «register_count») supplement (now (request .entry)) room))
+        (payloadOf (now (request .entry)))) ⌝ }
 {
     let first = decide_counts::first_refusal(slot_count, register_count, room);
     if first == 1 {
-        return Decision::Refuse(Refusal::RowCounts);
+        return decide_parts::refuse(Refusal::RowCounts);
     }
     if first == 2 {
-        return Decision::Refuse(Refusal::ShortBuffer);
+        return decide_parts::refuse(Refusal::ShortBuffer);
     }
     if !sound {
-        return Decision::Refuse(Refusal::UnsoundRows);
+        return decide_parts::refuse(Refusal::UnsoundRows);
     }
     if !row_supplements::is_well_formed(supplement) {
-        return Decision::Refuse(Refusal::BadSupplement);
+        return decide_parts::refuse(Refusal::BadSupplement);
     }
     if !message_frames::is_whole(request) {
-        return Decision::Refuse(Refusal::BadFrame);
+        return decide_parts::refuse(Refusal::BadFrame);
     }
     if !message_frames::is_checked(request) {
-        return Decision::Refuse(Refusal::BadChecksum);
+        return decide_parts::refuse(Refusal::BadChecksum);
     }
     let command = message_commands::command_of(message_frames::header(request));
     if !is_one_of_ten(command) {
-        return Decision::Refuse(Refusal::UnknownHeader);
+        return decide_parts::refuse(Refusal::UnknownHeader);
     }
     decide_commands::decide_command(
         command,

@@ -1,6 +1,5 @@
 -- Each case of a decision, with what the code knows where it answers as premises.
-use mathlib.Core.Path.{_≡_, refl, sym}
-use mathlib.Core.Bool.{true}
+use mathlib.Core.Path.{_≡_, refl, sym, ap, _∙_}
 use mathlib.Core.List.{List, [], _∷_}
 use Prim.Native.Nat.{ℕ, _+_, _*_, _^_, _≤_, _<_}
 use native.Mathlib.Omega.{arith}
@@ -8,29 +7,53 @@ use types.Run.{OneOf, miss}
 use denote.Enum.Declared.{tagOf}
 use lib.ListN.{length, getD, set, take, replicate}
 use lib.Seq.{length-take-le, take-at}
-use Rattle.field_values.specs.Values.{Value}
-use Rattle.card_stored.specs.Stored.{inRow}
-use Rattle.message_commands.specs.declared.Command.the-variants.{KL, KF}
+use Rattle.field_values.specs.Values.{Value, valuesOf}
+use Rattle.byte_bounds.specs.declared.Bounds.{Bounds}
+use Rattle.card_incoming.specs.Incoming.{AreValues}
+use Rattle.card_stored.specs.Stored.{loadValues, storedCard, inRow}
 use Rattle.row_types.specs.Lists.{mapped}
-use Rattle.row_types.specs.Slots.{freeSlot, movedSlot, resetSlot}
-use Rattle.row_types.specs.Registers.{freeRegister, filledRegister, withoutSlot}
+use Rattle.row_types.specs.Slots.{freeSlot, filledSlot, movedSlot, resetSlot}
+use Rattle.row_types.specs.Registers.{freeRegister, filledRegister}
 use Rattle.card_writer.specs.declared.Stored.{Stored}
 use Rattle.row_types.specs.declared.SlotRow.{SlotRow}
 use Rattle.row_types.specs.declared.RegisterRow.{RegisterRow}
 use Rattle.row_types.specs.declared.Supplement.{Supplement}
-use Rattle.row_types.specs.declared.SlotState.the-variants.{Loading, Idle}
+use Rattle.row_types.specs.declared.SlotState.the-variants.{Pending, Loading, Idle}
 use Rattle.row_types.proofs.ListLaws.{map-set}
 use Rattle.row_types.proofs.PlaceCounts.{getD-any}
-use Rattle.engine.specs.Requests.{areFieldsOf, firstText}
+use Rattle.engine.specs.Requests.{firstText}
+use Rattle.engine.specs.Answers.{loadedCard}
 use Rattle.engine.specs.declared.Decision.{Decision}
 use Rattle.engine.specs.declared.Decision.the-variants.{Refuse, Reset, Pend, Open, Load, Finish, Delete, Clear, Show, Enumerate, Query}
 use Rattle.engine.proofs.Decision.{the-type}
-use Rattle.response_parts.specs.Parts.{pendingRow, cardOf}
-use Rattle.row_index.specs.Found.{AreOwnedBy}
+use Rattle.decide_parts.specs.Parts.{pendingRow, cardOf, PendParts, LoadParts}
+use Rattle.decide_parts.specs.declared.Parts.{Parts}
 use Rattle.row_index.specs.Lent.{rowWith, rowsWith}
 use Rattle.register_tables.specs.Freed.{freed}
 use Rattle.register_tables.proofs.FreedLaws.{freed-rows}
 use Rattle.entry_changes.specs.Changes.{slotsAfter, registersAfter, CanChangeSlots, CanChangeRegisters, HasStored}
+
+-- pending_row
+pub row-made : (u u′ v v′ clock : List ℕ) (r : SlotRow) → u ≡ u′ → v ≡ v′ → r ≡ filledSlot Pending u v clock → r ≡ filledSlot Pending u′ v′ clock
+row-made u u′ v v′ clock r e f p = rw (← e, ← f) p
+
+-- loaded_card: card and slot are those of the request
+module _ (card u check slot v : List ℕ) (e : card ≡ u) (f : slot ≡ v) where
+  same-card : storedCard card (loadValues check slot) ≡ loadedCard u check v
+  unfolding loadedCard
+  same-card = rw (e, f) refl
+
+  pub card-room : length (loadedCard u check v) ≤ 256 → length (storedCard card (loadValues check slot)) ≤ 256
+  card-room h = rw same-card h
+
+  pub card-values : (values : List Bounds) → AreValues values u → AreValues values card
+  card-values values h = rw e h
+
+  pub card-made : (r : List ℕ) → r ≡ inRow (storedCard card (loadValues check slot)) → r ≡ inRow (loadedCard u check v)
+  card-made r p = p ∙ ap inRow same-card
+
+  pub card-measured : (n : ℕ) → n ≡ length (storedCard card (loadValues check slot)) → n ≡ length (loadedCard u check v)
+  card-measured n p = p ∙ ap length same-card
 
 -- a slot row takes 73 bytes, a card 256
 slot-fits : (k : ℕ) → k < 8 → k * 73 < 2 ^ 64
@@ -40,7 +63,7 @@ register-fits : (k : ℕ) → k < 32 → k * 256 < 2 ^ 64
 register-fits k h = omega arith
 
 -- change_slots
-module _ (d : Decision) (n : ℕ) (vs : List Value) (can : CanChangeSlots d n vs) where
+module _ (d : Decision) (p : Parts) (n : ℕ) (s : List ℕ) (can : CanChangeSlots d p n s) where
   pub reset-can : d ≡ Reset → n ≤ 8
   reset-can e = rw e at can
 
@@ -52,8 +75,8 @@ module _ (d : Decision) (n : ℕ) (vs : List Value) (can : CanChangeSlots d n vs
       pub pend-fits : k * 73 < 2 ^ 64
       pend-fits = slot-fits k pend-can
 
-      pub pend-fields : areFieldsOf KF vs ≡ true
-      pend-fields = (rw e at can) .1
+      pub pend-parts : PendParts p s
+      pend-parts = (rw e at can) .1
 
     module _ (e : d ≡ Open k) where
       pub open-can : k < 8
@@ -128,7 +151,10 @@ module _ (d : Decision) (n : ℕ) (l : List SlotRow) (x : Supplement) (vs : List
       finish-made e h p = rw (e, p, getD-any l k y freeSlot (omega arith)) refl
 
 -- change_registers: l are the cards
-module _ (d : Decision) (m : ℕ) (owners : List ℕ) (l : List (List ℕ)) (x : Supplement) (vs : List Value) (can : CanChangeRegisters d m owners (rowsWith l) x vs) (k : ℕ) where
+module _ (d : Decision) (m : ℕ) (owners : List ℕ) (l : List (List ℕ)) (x : Supplement) (p : Parts) (s : List ℕ) (can : CanChangeRegisters d p m owners (rowsWith l) x s) (k : ℕ) where
+  abbrev vs : List Value
+  vs = valuesOf s
+
   module _ (e : d ≡ Load k) where
     pub load-can : k < 32
     load-can = (rw e at can) .0
@@ -136,15 +162,15 @@ module _ (d : Decision) (m : ℕ) (owners : List ℕ) (l : List (List ℕ)) (x :
     pub load-fits : k * 256 < 2 ^ 64
     load-fits = register-fits k load-can
 
-    pub load-fields : areFieldsOf KL vs ≡ true
-    load-fields = (rw e at can) .1 .0
+    pub load-parts : LoadParts p s
+    load-parts = (rw e at can) .1 .0
 
     pub load-length : length (cardOf x vs) ≤ 256
     load-length = (rw e at can) .1 .1
 
     pub load-made : (c : List ℕ) → c ≡ inRow (cardOf x vs) → rowsWith (set l k c) ≡ registersAfter d m (rowsWith l) x vs
     unfolding filledRegister
-    load-made c p = rw (e, p) (map-set rowWith l k (inRow (cardOf x vs)))
+    load-made c q = rw (e, q) (map-set rowWith l k (inRow (cardOf x vs)))
 
   module _ (e : d ≡ Delete k) where
     pub delete-sum : (j : ℕ) → j ≤ 8 → k + j < 2 ^ 64
@@ -157,9 +183,9 @@ module _ (d : Decision) (m : ℕ) (owners : List ℕ) (l : List (List ℕ)) (x :
     delete-cards z = let h = delete-count in omega arith
 
     pub cards-freed : length owners ≡ 32 → (u : List (List ℕ)) → u ≡ freed (k + 1) (take m owners) l → rowsWith u ≡ registersAfter d m (rowsWith l) x vs
-    cards-freed z u p =
+    cards-freed z u q =
         let h = delete-count in
-        rw (e, p) (freed-rows (k + 1) (firstText vs) (take m owners) m l ((rw e at can) .1 .1) (length-take-le m owners (omega arith)))
+        rw (e, q) (freed-rows (k + 1) (firstText vs) (take m owners) m l ((rw e at can) .1 .1) (length-take-le m owners (omega arith)))
 
   module _ (e : d ≡ Clear k) where
     pub clear-can : k < 32

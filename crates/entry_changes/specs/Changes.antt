@@ -2,11 +2,9 @@
 -- the places that hold them, x is the supplement, vs are the request's fields, k is the place of a row, counted from 0.
 use Prim.Native.Nat.{ℕ, _+_, _≤_, _<_}
 use mathlib.Core.Path.{_≡_}
-use mathlib.Core.Bool.{true}
 use mathlib.Core.List.{List}
 use lib.ListN.{length, getD, set, take}
-use Rattle.field_values.specs.Values.{Value}
-use Rattle.message_commands.specs.declared.Command.the-variants.{KL, KF}
+use Rattle.field_values.specs.Values.{Value, valuesOf}
 use Rattle.row_types.specs.Lists.{mapped}
 use Rattle.row_types.specs.Slots.{freeSlot, movedSlot, resetSlot}
 use Rattle.row_types.specs.Registers.{freeRegister, filledRegister, withoutSlot}
@@ -17,8 +15,9 @@ use Rattle.row_types.specs.declared.Supplement.{Supplement}
 use Rattle.row_types.specs.declared.Tables.{Tables}
 use Rattle.row_types.specs.declared.SlotState.the-variants.{Loading, Idle}
 use Rattle.row_index.specs.Found.{AreOwnedBy}
-use Rattle.engine.specs.Requests.{areFieldsOf, firstText}
-use Rattle.response_parts.specs.Parts.{pendingRow, cardOf}
+use Rattle.engine.specs.Requests.{firstText}
+use Rattle.decide_parts.specs.Parts.{pendingRow, cardOf, PendParts, LoadParts}
+use Rattle.decide_parts.specs.declared.Parts.{Parts}
 use Rattle.engine.specs.declared.Decision.{Decision}
 use Rattle.engine.specs.declared.Decision.the-variants.{Refuse, Reset, Pend, Open, Load, Finish}
 use Rattle.engine.specs.declared.Decision.the-variants.{Delete, Clear, Show, Enumerate, Query}
@@ -60,40 +59,40 @@ tablesFor d t x vs = record {
   «register_count» = t .«register_count»;
 }
 
--- what makes the change of the slot rows fit; it is known of each decision
-abbrev pub CanChangeSlots : Decision → ℕ → List Value → Type 0
-CanChangeSlots (Refuse r) n vs = Unit {0}
-CanChangeSlots Reset n vs = n ≤ 8
-CanChangeSlots (Pend k) n vs = (k < 8) × (areFieldsOf KF vs ≡ true)
-CanChangeSlots (Open k) n vs = k < 8
-CanChangeSlots (Load k) n vs = Unit {0}
-CanChangeSlots (Finish k) n vs = k < 8
-CanChangeSlots (Delete k) n vs = k < 8
-CanChangeSlots (Clear k) n vs = Unit {0}
-CanChangeSlots (Show k) n vs = Unit {0}
-CanChangeSlots Enumerate n vs = Unit {0}
-CanChangeSlots (Query k) n vs = Unit {0}
+-- what makes the change of the slot rows fit; it is known of each decision on the payload s
+abbrev pub CanChangeSlots : Decision → Parts → ℕ → List ℕ → Type 0
+CanChangeSlots (Refuse r) p n s = Unit {0}
+CanChangeSlots Reset p n s = n ≤ 8
+CanChangeSlots (Pend k) p n s = (k < 8) × PendParts p s
+CanChangeSlots (Open k) p n s = k < 8
+CanChangeSlots (Load k) p n s = Unit {0}
+CanChangeSlots (Finish k) p n s = k < 8
+CanChangeSlots (Delete k) p n s = k < 8
+CanChangeSlots (Clear k) p n s = Unit {0}
+CanChangeSlots (Show k) p n s = Unit {0}
+CanChangeSlots Enumerate p n s = Unit {0}
+CanChangeSlots (Query k) p n s = Unit {0}
 
 -- what makes the change of the register rows fit, and of SM?KX that the owners have the slot's number just at its
--- registers; it is known of each decision
-abbrev pub CanChangeRegisters : Decision → ℕ → List ℕ → List RegisterRow → Supplement → List Value → Type 0
-CanChangeRegisters (Refuse r) m owners l x vs = Unit {0}
-CanChangeRegisters Reset m owners l x vs = Unit {0}
-CanChangeRegisters (Pend k) m owners l x vs = Unit {0}
-CanChangeRegisters (Open k) m owners l x vs = Unit {0}
-CanChangeRegisters (Load k) m owners l x vs =
+-- registers; it is known of each decision on the payload s
+abbrev pub CanChangeRegisters : Decision → Parts → ℕ → List ℕ → List RegisterRow → Supplement → List ℕ → Type 0
+CanChangeRegisters (Refuse r) p m owners l x s = Unit {0}
+CanChangeRegisters Reset p m owners l x s = Unit {0}
+CanChangeRegisters (Pend k) p m owners l x s = Unit {0}
+CanChangeRegisters (Open k) p m owners l x s = Unit {0}
+CanChangeRegisters (Load k) p m owners l x s =
     (k < 32)
-    × ((areFieldsOf KL vs ≡ true)
-    × (length (cardOf x vs) ≤ 256))
-CanChangeRegisters (Finish k) m owners l x vs = Unit {0}
-CanChangeRegisters (Delete k) m owners l x vs =
+    × (LoadParts p s
+    × (length (cardOf x (valuesOf s)) ≤ 256))
+CanChangeRegisters (Finish k) p m owners l x s = Unit {0}
+CanChangeRegisters (Delete k) p m owners l x s =
     (k < 8)
     × ((m ≤ 32)
-    × AreOwnedBy (k + 1) (firstText vs) (take m owners) (take m l))
-CanChangeRegisters (Clear k) m owners l x vs = k < 32
-CanChangeRegisters (Show k) m owners l x vs = Unit {0}
-CanChangeRegisters Enumerate m owners l x vs = Unit {0}
-CanChangeRegisters (Query k) m owners l x vs = Unit {0}
+    × AreOwnedBy (k + 1) (firstText (valuesOf s)) (take m owners) (take m l))
+CanChangeRegisters (Clear k) p m owners l x s = k < 32
+CanChangeRegisters (Show k) p m owners l x s = Unit {0}
+CanChangeRegisters Enumerate p m owners l x s = Unit {0}
+CanChangeRegisters (Query k) p m owners l x s = Unit {0}
 
 -- the card that SM?KL stored, in as much of the space as it is long
 abbrev pub HasStored : Decision → Stored → Supplement → List Value → Type 0

@@ -1,33 +1,53 @@
 // The rows after a decision (document 01, "Slots and registers"). The tables are changed in one place, and a row at
 // a time but for the two sweeps.
 use card_writer::Stored;
+use decide_parts::Decided;
+use decide_parts::Parts;
 use engine::Decision;
 use row_types::SlotRow;
 use row_types::SlotState;
 use row_types::Supplement;
 ghost use mathlib.Core.Path.{_≡_};
+ghost use Prim.Native.Nat.{_≤_};
 ghost use lib.ListN.{length};
 ghost use Rattle.field_values.specs.Values.{valuesOf};
+ghost use Rattle.card_stored.specs.Stored.{inRow};
 ghost use Rattle.row_index.specs.Lent.{rowsWith};
+ghost use Rattle.decide_parts.specs.Parts.{pendingRow, cardOf, PendParts, LoadParts};
 ghost use Rattle.entry_changes.specs.Changes.{slotsAfter, registersAfter};
 ghost use Rattle.entry_changes.specs.Changes.{CanChangeSlots, CanChangeRegisters, HasStored};
 
+// The row that SM?KC makes: PENDING, with the record's KMCID and fingerprint and the clock as TVP.
+fn pending_row(parts: Parts, clock: &[u8], payload: &[u8]) -> SlotRow
+    requires { ⌜ PendParts parts (now payload) ⌝ }
+    ensures { λ r. ⌜ r ≡ pendingRow (now (clock .entry)) (valuesOf (now (payload .entry))) ⌝ }
+{
+    slot_rows::filled_slot(
+        SlotState::Pending,
+        byte_bounds::part(payload, parts.slot),
+        byte_bounds::part(payload, parts.fingerprint),
+        clock,
+    )
+}
+
 // The slot rows after a decision on a request with a payload.
 pub fn change_slots(
-    decision: Decision,
+    decided: Decided,
     slots: [SlotRow; 8],
     slot_count: usize,
     supplement: Supplement,
     payload: &[u8],
 ) -> [SlotRow; 8]
-    requires { ⌜ CanChangeSlots decision «slot_count» (valuesOf (now payload)) ⌝ }
-    ensures { λ after. ⌜ after ≡ slotsAfter decision «slot_count» slots supplement (valuesOf (now (payload .entry))) ⌝ }
+    requires { ⌜ CanChangeSlots (decided .decision) (decided .parts) «slot_count» (now payload) ⌝ }
+    ensures { λ after. ⌜ after
+        ≡ slotsAfter (decided .decision) «slot_count» slots supplement (valuesOf (now (payload .entry))) ⌝ }
 {
     let mut after = slots;
+    let decision = decided.decision;
     match decision {
         Decision::Reset => slot_tables::reset_slots(slots, slot_count),
         Decision::Pend(k) => {
-            after[k] = response_parts::pending_row(payload, &supplement.clock);
+            after[k] = pending_row(decided.parts, &supplement.clock, payload);
             after
         }
         Decision::Open(k) => {
@@ -61,11 +81,27 @@ fn no_card() -> Stored
     }
 }
 
+// The card that SM?KL stores: of the card at its bounds, with the slot as KSL.
+fn loaded_card(parts: Parts, supplement: Supplement, payload: &[u8]) -> Stored
+    requires { ⌜ LoadParts parts (now payload)
+        × (length (cardOf supplement (valuesOf (now payload))) ≤ 256) ⌝ }
+    ensures { λ r. ⌜ r .card ≡ inRow (cardOf supplement (valuesOf (now (payload .entry)))) ⌝ }
+    ensures measured { λ r. ⌜ r .length ≡ length (cardOf supplement (valuesOf (now (payload .entry)))) ⌝ }
+{
+    let values = parts.values;
+    card_writer::write_stored(
+        byte_bounds::part(payload, parts.card),
+        values,
+        &supplement.check,
+        byte_bounds::part(payload, parts.slot),
+    )
+}
+
 // Changes the cards of the register rows, the first register_count of them the caller's, by a decision on a request
 // with a payload; owners are the numbers of the slots that own them. Answers the card that SM?KL stored, so that
 // its response need not make it again.
 pub fn change_registers(
-    decision: Decision,
+    decided: Decided,
     cards: &mut [[u8; 256]],
     register_count: usize,
     owners: [usize; 32],
@@ -73,16 +109,17 @@ pub fn change_registers(
     payload: &[u8],
 ) -> Stored
     requires { ⌜ (length (now cards) ≡ 32)
-        × CanChangeRegisters decision «register_count» owners (rowsWith (now cards)) supplement
-        (valuesOf (now payload)) ⌝ }
+        × CanChangeRegisters (decided .decision) (decided .parts) «register_count» owners (rowsWith (now cards))
+        supplement (now payload) ⌝ }
     ensures { λ _. ⌜ rowsWith (now (cards .exit))
-        ≡ registersAfter decision «register_count» (rowsWith (now (cards .entry))) supplement
+        ≡ registersAfter (decided .decision) «register_count» (rowsWith (now (cards .entry))) supplement
         (valuesOf (now (payload .entry))) ⌝ }
-    ensures stored { λ s. ⌜ HasStored decision s supplement (valuesOf (now (payload .entry))) ⌝ }
+    ensures stored { λ s. ⌜ HasStored (decided .decision) s supplement (valuesOf (now (payload .entry))) ⌝ }
 {
+    let decision = decided.decision;
     match decision {
         Decision::Load(k) => {
-            let s = response_parts::loaded_card(payload, supplement);
+            let s = loaded_card(decided.parts, supplement, payload);
             let card = s.card;
             cards[k] = card;
             s

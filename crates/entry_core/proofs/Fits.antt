@@ -1,7 +1,7 @@
 -- What a decision says of its places, its strings and the room is enough to write its response and to change the rows.
-use mathlib.Core.Path.{_≡_, refl, sym, ap, _∙_}
+use mathlib.Core.Path.{_≡_, refl, ap, _∙_}
 use mathlib.Core.Bool.{true, false, not}
-use mathlib.Core.List.{List, [], _∷_, map}
+use mathlib.Core.List.{List, map}
 use mathlib.Core.Option.{Option, none, some}
 use Prim.Native.Nat.{ℕ, _+_, _≤_, _<_}
 use native.Mathlib.Omega.{arith}
@@ -15,13 +15,12 @@ use Rattle.text_classes.proofs.Identify.{name-short}
 use Rattle.field_values.specs.Values.{Value}
 use Rattle.text_forms.specs.Forms.{inForm}
 use Rattle.text_forms.specs.declared.Form.the-variants.{Name}
-use Rattle.message_frames.specs.Frames.{isWhole}
+use Rattle.message_frames.specs.Frames.{isWhole, payloadOf}
 use Rattle.record_parser.specs.Records.{field}
 use Rattle.record_identities.specs.Identities.{colon, identityInForm}
 use Rattle.record_types.specs.KeyRecords.{bar, publicKeyInForm, responseInForm}
 use Rattle.message_commands.specs.declared.Command.{Command}
 use Rattle.message_commands.specs.declared.Command.the-variants.{RS, KC, KR, KL, KF, KX, KD, GA, GL, KQ}
-use Rattle.decide_payloads.proofs.PayloadLaws.{text-fields}
 use Rattle.row_types.specs.Supplements.{isWellFormed, isIdentityRight, isLoadRequestRight}
 use Rattle.row_types.specs.Lists.{everyRow}
 use Rattle.row_types.specs.Slots.{hasState, kmcidOf, isNamed, isSlotSound, freeSlot}
@@ -51,9 +50,9 @@ use Rattle.engine.proofs.RefusalLaws.{isUnwritten, isOwn, Group, of-tables, of-
 use Rattle.engine.proofs.Steps.{is-short}
 use Rattle.response_refusals.specs.RefusalForms.{CanRefuse}
 use Rattle.response_refusals.proofs.RefusalLaws.{can-tell}
-use Rattle.response_parts.specs.Parts.{cardOf}
-use Rattle.response_sessions.specs.Room.{HasRoom}
-use Rattle.response_requests.specs.Responding.{CanRespond}
+use Rattle.decide_parts.specs.Parts.{cardOf, HasParts}
+use Rattle.decide_parts.specs.declared.Parts.{Parts}
+use Rattle.response_requests.specs.Responding.{HasRoom, CanRespond}
 use Rattle.entry_changes.specs.Changes.{registersAfter, CanChangeSlots, CanChangeRegisters, HasStored}
 use Rattle.engine.proofs.Places.{filled-below}
 use Rattle.decide_counts.proofs.CountLaws.{slots-few, registers-few}
@@ -176,68 +175,67 @@ module _ (t : Tables) (x : Supplement) (q : List ℕ) (room : ℕ) (owners : Lis
   abbrev after : Decision → Tables
   after d = tablesWith (t .slots) (t .«slot_count») (registersAfter d (t .«register_count») (t .registers) x vs) (t .«register_count»)
 
-  pub can-respond : (d : Decision) → decisionOf k₀ ≡ d → (c : Stored) → HasStored d c x vs → CanRespond d (after d) owners c x q room
+  pub can-respond : (d : Decision) → decisionOf k₀ ≡ d → (p : Parts) → HasParts d p (payloadOf q) → (c : Stored) → HasStored d c x vs → CanRespond d p (after d) owners c x q room
   unfolding recordIn
-  can-respond (Refuse r) e c w = tells k₀ r e
-  can-respond Reset e c w = has-room k₀ RS (asked-of k₀ Reset e refl)
-  can-respond (Pend k) e c w =
+  can-respond (Refuse r) e p h c w = tells k₀ r e
+  can-respond Reset e p h c w = has-room k₀ RS (asked-of k₀ Reset e refl)
+  can-respond (Pend k) e p h c w =
       let y = asked-of k₀ (Pend k) e refl in
-      (has-room k₀ KC y, (sym (text-fields KC vs refl) ∙ y .fields, (public-short (firstText vs) (and-first (publicKeyInForm (firstText vs)) true (y .form)), request-short x (y .supplement))))
-  can-respond (Open k) e c w =
+      (has-room k₀ KC y, (h, (public-short (firstText vs) (and-first (publicKeyInForm (firstText vs)) true (y .form)), request-short x (y .supplement))))
+  can-respond (Open k) e p h c w =
       let y = asked-of k₀ (Open k) e refl in
-      (has-room k₀ KR y, (sym (text-fields KR vs refl) ∙ y .fields, response-short (firstText vs) (and-first (responseInForm (firstText vs)) true (y .form))))
-  can-respond (Load k) e c w =
+      (has-room k₀ KR y, (h, response-short (firstText vs) (and-first (responseInForm (firstText vs)) true (y .form))))
+  can-respond (Load k) e p h c w =
       let y = asked-of k₀ (Load k) e refl in
       (has-room k₀ KL y, (w k refl .0, (w k refl .1, load-low k e)))
-  can-respond (Finish k) e c w = has-room k₀ KF (asked-of k₀ (Finish k) e refl)
-  can-respond (Delete k) e c w = has-room k₀ KX (asked-of k₀ (Delete k) e refl)
-  can-respond (Clear k) e c w = has-room k₀ KD (asked-of k₀ (Clear k) e refl)
-  can-respond (Show k) e c w =
+  can-respond (Finish k) e p h c w = has-room k₀ KF (asked-of k₀ (Finish k) e refl)
+  can-respond (Delete k) e p h c w = has-room k₀ KX (asked-of k₀ (Delete k) e refl)
+  can-respond (Clear k) e p h c w = has-room k₀ KD (asked-of k₀ (Clear k) e refl)
+  can-respond (Show k) e p h c w =
       let y = asked-of k₀ (Show k) e refl in
       (has-room k₀ GA y, register-place GA y k _ (show-place k₀ k e) (filled-below (registerIn vs) (k₀ .registers) (y .filled)))
-  can-respond Enumerate e c w =
+  can-respond Enumerate e p h c w =
       let y = asked-of k₀ Enumerate e refl in
       (has-room k₀ GL y, slots-few (t .«slot_count») (t .«register_count») (y .counts))
-  can-respond (Query k) e c w =
+  can-respond (Query k) e p h c w =
       let y = asked-of k₀ (Query k) e refl in
-      let p = queried-at k e in
-      (has-room k₀ KQ y, (slot-place KQ y k _ (query-place k₀ k e) (slot-below (slotIn KQ vs) (k₀ .slots) (y .known)), (registers-few (t .«slot_count») (t .«register_count») (y .counts), rw (kept-at (slotIn KQ vs) (t .«slot_count») (t .slots) k p) (owned-at KQ y (slotIn KQ vs) k p))))
+      let found = queried-at k e in
+      (has-room k₀ KQ y, (slot-place KQ y k _ (query-place k₀ k e) (slot-below (slotIn KQ vs) (k₀ .slots) (y .known)), (registers-few (t .«slot_count») (t .«register_count») (y .counts), rw (kept-at (slotIn KQ vs) (t .«slot_count») (t .slots) k found) (owned-at KQ y (slotIn KQ vs) k found))))
 
-  pub can-slots : (d : Decision) → decisionOf k₀ ≡ d → CanChangeSlots d (t .«slot_count») vs
-  can-slots (Refuse r) e = tt
-  can-slots Reset e = slots-few (t .«slot_count») (t .«register_count») (asked-of k₀ Reset e refl .counts)
-  can-slots (Pend k) e =
+  pub can-slots : (d : Decision) → decisionOf k₀ ≡ d → (p : Parts) → HasParts d p (payloadOf q) → CanChangeSlots d p (t .«slot_count») (payloadOf q)
+  can-slots (Refuse r) e p h = tt
+  can-slots Reset e p h = slots-few (t .«slot_count») (t .«register_count») (asked-of k₀ Reset e refl .counts)
+  can-slots (Pend k) e p h =
       let y = asked-of k₀ (Pend k) e refl in
-      (slot-place KC y k _ (pend-place k₀ k e) (session-below (slotIn KC vs) (k₀ .slots) (y .spot)), sym (text-fields KC vs refl) ∙ y .fields)
-  can-slots (Open k) e =
+      (slot-place KC y k _ (pend-place k₀ k e) (session-below (slotIn KC vs) (k₀ .slots) (y .spot)), h)
+  can-slots (Open k) e p h =
       let y = asked-of k₀ (Open k) e refl in
       slot-place KR y k _ (open-place k₀ k e) (slot-below (slotIn KR vs) (k₀ .slots) (y .known))
-  can-slots (Load k) e = tt
-  can-slots (Finish k) e =
+  can-slots (Load k) e p h = tt
+  can-slots (Finish k) e p h =
       let y = asked-of k₀ (Finish k) e refl in
       slot-place KF y k _ (finish-place k₀ k e) (slot-below (slotIn KF vs) (k₀ .slots) (y .known))
-  can-slots (Delete k) e = delete-low k e
-  can-slots (Clear k) e = tt
-  can-slots (Show k) e = tt
-  can-slots Enumerate e = tt
-  can-slots (Query k) e = tt
+  can-slots (Delete k) e p h = delete-low k e
+  can-slots (Clear k) e p h = tt
+  can-slots (Show k) e p h = tt
+  can-slots Enumerate e p h = tt
+  can-slots (Query k) e p h = tt
 
-  pub can-registers : (d : Decision) → decisionOf k₀ ≡ d → CanChangeRegisters d (t .«register_count») owners (t .registers) x vs
+  pub can-registers : (d : Decision) → decisionOf k₀ ≡ d → (p : Parts) → HasParts d p (payloadOf q) → CanChangeRegisters d p (t .«register_count») owners (t .registers) x (payloadOf q)
   unfolding slotIn
-  can-registers (Refuse r) e = tt
-  can-registers Reset e = tt
-  can-registers (Pend k) e = tt
-  can-registers (Open k) e = tt
-  can-registers (Load k) e =
-      let y = asked-of k₀ (Load k) e refl in
-      (load-low k e, (y .fields, loaded-short k₀ k e))
-  can-registers (Finish k) e = tt
-  can-registers (Delete k) e =
+  can-registers (Refuse r) e p h = tt
+  can-registers Reset e p h = tt
+  can-registers (Pend k) e p h = tt
+  can-registers (Open k) e p h = tt
+  can-registers (Load k) e p h =
+      (load-low k e, (h, loaded-short k₀ k e))
+  can-registers (Finish k) e p h = tt
+  can-registers (Delete k) e p h =
       let y = asked-of k₀ (Delete k) e refl in
       (delete-low k e, (registers-few (t .«slot_count») (t .«register_count») (y .counts), owned-at KX y (slotIn KX vs) k (deleted-at k e)))
-  can-registers (Clear k) e =
+  can-registers (Clear k) e p h =
       let y = asked-of k₀ (Clear k) e refl in
       register-place KD y k _ (clear-place k₀ k e) (filled-below (registerIn vs) (k₀ .registers) (y .filled))
-  can-registers (Show k) e = tt
-  can-registers Enumerate e = tt
-  can-registers (Query k) e = tt
+  can-registers (Show k) e p h = tt
+  can-registers Enumerate e p h = tt
+  can-registers (Query k) e p h = tt

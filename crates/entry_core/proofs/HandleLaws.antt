@@ -21,6 +21,8 @@ use Rattle.engine.specs.Questions.{areCounts}
 use Rattle.engine.specs.Answers.{response, answerOf}
 use Rattle.engine.specs.Calls.{callIn, Responded, tablesAfter}
 use Rattle.engine.specs.Decisions.{decisionOf}
+use Rattle.decide_parts.specs.Parts.{IsDecided}
+use Rattle.decide_parts.specs.declared.Decided.{Decided}
 use Rattle.engine.specs.declared.Decision.{Decision}
 use Rattle.engine.specs.declared.Decision.the-variants.{Refuse, Reset, Pend, Open, Load, Finish, Delete, Clear, Show, Enumerate, Query}
 use Rattle.engine.specs.declared.Outcome.{Outcome}
@@ -47,19 +49,25 @@ same-response Enumerate slots n R m x vs q = refl
 same-response (Query k) slots n R m x vs q = refl
 
 -- handle_cards: R are the rows with the lent cards, owners the numbers of their owners
-module _ (slots : List SlotRow) (n : ℕ) (R : List RegisterRow) (m : ℕ) (x : Supplement) (q : List ℕ) (room : ℕ) (d : Decision) (e : d ≡ decisionOf (callIn (tablesWith slots n R m) x q room)) where
+module _ (slots : List SlotRow) (n : ℕ) (R : List RegisterRow) (m : ℕ) (x : Supplement) (q : List ℕ) (room : ℕ) (g : Decided) (is : IsDecided g (decisionOf (callIn (tablesWith slots n R m) x q room)) (payloadOf q)) where
+  abbrev d : Decision
+  d = g .decision
+
+  e : d ≡ decisionOf (callIn (tablesWith slots n R m) x q room)
+  e = is .decision-is
+
   abbrev t : Tables
   t = tablesWith slots n R m
 
   module _ (owners : List ℕ) (owned : areCounts n m ≡ true → AreOwners owners (take n slots) (take m R) m) where
-    pub responds : (p : List ℕ) → p ≡ payloadOf q → (c : Stored) → HasStored d c x (valuesOf p) → (l : List RegisterRow) → l ≡ registersAfter d m R x (valuesOf p) → CanRespond d (tablesWith slots n l m) owners c x q room
-    responds p w c h l y = rw (y, w) (can-respond t x q room owners owned d (sym e) c (rw w at h))
+    pub responds : (p : List ℕ) → p ≡ payloadOf q → (c : Stored) → HasStored d c x (valuesOf p) → (l : List RegisterRow) → l ≡ registersAfter d m R x (valuesOf p) → CanRespond d (g .parts) (tablesWith slots n l m) owners c x q room
+    responds p w c h l y = rw (y, w) (can-respond t x q room owners owned d (sym e) (g .parts) (is .parts-stand) c (rw w at h))
 
-    pub slots-can : (p : List ℕ) → p ≡ payloadOf q → CanChangeSlots d n (valuesOf p)
-    slots-can p w = rw w (can-slots t x q room owners owned d (sym e))
+    pub slots-can : (p : List ℕ) → p ≡ payloadOf q → CanChangeSlots d (g .parts) n p
+    slots-can p w = rw w (can-slots t x q room owners owned d (sym e) (g .parts) (is .parts-stand))
 
-    pub registers-can : (p : List ℕ) → p ≡ payloadOf q → CanChangeRegisters d m owners R x (valuesOf p)
-    registers-can p w = rw w (can-registers t x q room owners owned d (sym e))
+    pub registers-can : (p : List ℕ) → p ≡ payloadOf q → CanChangeRegisters d (g .parts) m owners R x p
+    registers-can p w = rw w (can-registers t x q room owners owned d (sym e) (g .parts) (is .parts-stand))
 
   pub outcome-right : (o : Outcome) → o ≡ outcomeFor d → o ≡ answerOf (callIn t x q room) .outcome
   outcome-right o w = w ∙ outcome-is (callIn t x q room) d (sym e)

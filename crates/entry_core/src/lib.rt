@@ -71,7 +71,8 @@ pub fn handle_cards(
         request,
         response.len(),
     );
-    let outcome = response_requests::outcome(d);
+    let decision = d.decision;
+    let outcome = response_requests::outcome(decision);
     let p = message_frames::payload(request);
     let after = entry_changes::change_slots(d, slots, slot_count, supplement, p);
     let stored = entry_changes::change_registers(d, cards, register_count, owners, supplement, p);

@@ -11,7 +11,6 @@ use Rattle.record_parser.specs.Records.{field, AreFields}
 use Rattle.record_parser.proofs.FieldLaws.{field-is}
 use Rattle.text_forms.specs.Forms.{inForm}
 use Rattle.text_forms.specs.declared.Form.{Form}
-use Rattle.record_identities.specs.Identities.{identityInForm}
 
 pub no-here : (a b t : Bool) → t ≡ a → not t ≡ true → false ≡ (a && b)
 no-here a b t p o = rw (← p, not-true t o)
@@ -22,12 +21,8 @@ yes-here a b t r p o q = rw (← p, not-false t o, q)
 pub ruleset chain = (no-here, yes-here)
 
 -- v is the part that is w in the definition
-module _ (v w : List ℕ) (e : v ≡ w) (r : Bool) where
-  pub form-of : (f : Form) → r ≡ inForm f v → r ≡ inForm f w
-  form-of f p = rw (← e) p
-
-  pub identity-of : r ≡ identityInForm v → r ≡ identityInForm w
-  identity-of p = rw (← e) p
+pub form-of : (v w : List ℕ) → v ≡ w → (r : Bool) (f : Form) → r ≡ inForm f v → r ≡ inForm f w
+form-of v w e r f p = rw (← e) p
 
 -- the same chain, of fields by the bounds that were noted of them
 module _ (d n : ℕ) (fields : List Bounds) (s : List ℕ) (w : AreFields d n fields s) (i : ℕ) (h : i ≤ n) (f : Form) (t : Bool) (p : t ≡ inForm f (bytesIn s (getD fields i nowhere))) where

@@ -7,17 +7,9 @@ ghost use mathlib.Core.Path.{_≡_};
 ghost use mathlib.Core.Bool.{true};
 ghost use lib.ListN.{length};
 ghost use Rattle.byte_bounds.specs.Bounds.{bytesIn, FitIn};
-ghost use Rattle.record_parser.specs.Records.{field, AreFields};
+ghost use Rattle.record_parser.specs.Records.{AreFields};
 ghost use Rattle.text_forms.specs.Forms.{inForm};
 ghost use Rattle.record_identities.specs.Identities.{colon, isKmcIdentity, isModuleIdentity, identityInForm};
-
-// goes
-// Whether the field of a number in a record is in a form.
-pub fn is_field(source: &[u8], delimiter: u8, number: usize, form: Form) -> bool
-    ensures { λ r. ⌜ r ≡ inForm form (field delimiter number (now (source .entry))) ⌝ }
-{
-    text_forms::in_form(form, record_parser::field(source, delimiter, number))
-}
 
 // The identity of a KMC, cut.
 pub fn read_kmc_identity(source: &[u8]) -> Record
@@ -58,21 +50,4 @@ pub fn is_identity_in_form(source: &[u8], fields: [Bounds; 6]) -> bool
         return false;
     }
     is_part_in_form(source, fields[4], Form::Hex(16))
-}
-
-// goes
-// Whether the fields of an identity are in form.
-pub fn identity_in_form(source: &[u8]) -> bool
-    ensures { λ r. ⌜ r ≡ identityInForm (now (source .entry)) ⌝ }
-{
-    if !is_field(source, b':', 1, Form::Name) {
-        return false;
-    }
-    if !is_field(source, b':', 2, Form::Name) {
-        return false;
-    }
-    if !is_field(source, b':', 3, Form::Timestamp) {
-        return false;
-    }
-    is_field(source, b':', 4, Form::Hex(16))
 }

@@ -1,5 +1,5 @@
 -- The cases of the parser, each with what the code knows where it answers as premises.
-use mathlib.Core.Path.{_≡_, refl, sym, ap, _∙_}
+use mathlib.Core.Path.{_≡_, refl, sym, _∙_}
 use mathlib.Core.Bool.{Bool, true, false, not, and-false, and-comm, _&&_}
 use mathlib.Core.List.{List, [], _∷_, _++_}
 use Prim.Native.Nat.{ℕ, _+_, _-_, _≤_, _<_}
@@ -16,7 +16,7 @@ use Rattle.check_sums.specs.Checksum.{endsInSum}
 use Rattle.check_sums.specs.declared.Kind.the-variants.{Modbus}
 use Rattle.text_classes.specs.Classes.{areAll}
 use Rattle.text_classes.specs.declared.Class.the-variants.{Printable}
-use Rattle.record_parser.specs.Records.{bodyOf, field, isRecord}
+use Rattle.record_parser.specs.Records.{bodyOf, isRecord}
 use Rattle.record_parser.proofs.CutLaws.{isCut}
 
 -- body
@@ -27,15 +27,6 @@ no-body s h = let e : length s - 4 ≡ 0 = omega arith in rw e
 pub a-body : (s : List ℕ) → take (length s - 4) s ≡ bodyOf s
 unfolding bodyOf
 a-body s = refl
-
--- field
-pub a-field : (d k : ℕ) (s v : List ℕ) → v ≡ getD (pieces d s) k [] → v ≡ field d k s
-unfolding field
-a-field d k s v e = e
-
--- a field of a part that was named u
-pub in-field : (d k : ℕ) (u v w : List ℕ) → u ≡ v → w ≡ field d k u → w ≡ field d k v
-in-field d k u v w e p = p ∙ ap (field d k) e
 
 -- has_type
 module _ (t : List ℕ) (d : ℕ) (s : List ℕ) where

@@ -12,7 +12,7 @@ ghost use Rattle.byte_strings.specs.Texts.{all};
 ghost use Rattle.byte_pieces.specs.Pieces.{pieces, isEnded};
 ghost use Rattle.check_sums.specs.Checksum.{endsInSum};
 ghost use Rattle.check_sums.specs.declared.Kind.the-variants.{Modbus};
-ghost use Rattle.record_parser.specs.Records.{bodyOf, field, AreFields, isRecord};
+ghost use Rattle.record_parser.specs.Records.{bodyOf, AreFields, isRecord};
 
 // A record, cut: whether it is one; and where it is, the bounds of its type and of its fields.
 pub struct Record {
@@ -29,14 +29,6 @@ fn body<'a>(source: &'a [u8]) -> &'a [u8]
     }
     let n = source.len() - 4;
     &source[..n]
-}
-
-// goes
-// The field of a number, counted from 1, and the type for 0; nothing where there are not so many.
-pub fn field<'a>(source: &'a [u8], delimiter: u8, number: usize) -> &'a [u8]
-    ensures { λ r. ⌜ now r ≡ field delimiter number (now (source .entry)) ⌝ }
-{
-    byte_pieces::piece(source, delimiter, number)
 }
 
 // Whether the record starts with the type and the delimiter.

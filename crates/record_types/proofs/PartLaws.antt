@@ -35,25 +35,8 @@ module _ (fields kmc : List Bounds) (s : List ℕ) (x y : Bool) (o : not x ≡ f
   is-response sm u w r k m q = (w (not-false x o), (k (not-false y r), m q))
 
 -- what was found to be a public key, or a load response, has its fields
-module _ (s : List ℕ) (k : PublicKey) (w : k .parsed ≡ true → IsPublicKey (k .fields) (k .kmc) s) (o : not (k .parsed) ≡ false) where
-  pub found-key : IsPublicKey (k .fields) (k .kmc) s
-  found-key = w (not-false (k .parsed) o)
+pub found-key : (s : List ℕ) (k : PublicKey) → (k .parsed ≡ true → IsPublicKey (k .fields) (k .kmc) s) → not (k .parsed) ≡ false → IsPublicKey (k .fields) (k .kmc) s
+found-key s k w o = w (not-false (k .parsed) o)
 
-  pub key-fields : AreFields bar 5 (k .fields) s
-  key-fields = found-key .0
-
-  pub key-kmc : AreFields colon 4 (k .kmc) (field bar 1 s)
-  key-kmc = found-key .1
-
-module _ (s : List ℕ) (a : LoadResponse) (w : a .parsed ≡ true → IsResponse (a .fields) (a .kmc) (a .module) s) (o : not (a .parsed) ≡ false) where
-  pub found-response : IsResponse (a .fields) (a .kmc) (a .module) s
-  found-response = w (not-false (a .parsed) o)
-
-  pub response-fields : AreFields bar 4 (a .fields) s
-  response-fields = found-response .0
-
-  pub response-kmc : AreFields colon 4 (a .kmc) (field bar 1 s)
-  response-kmc = found-response .1 .0
-
-  pub response-module : AreFields colon 4 (a .module) (field bar 2 s)
-  response-module = found-response .1 .1
+pub found-response : (s : List ℕ) (a : LoadResponse) → (a .parsed ≡ true → IsResponse (a .fields) (a .kmc) (a .module) s) → not (a .parsed) ≡ false → IsResponse (a .fields) (a .kmc) (a .module) s
+found-response s a w o = w (not-false (a .parsed) o)

@@ -88,27 +88,3 @@ pub fn read_key(source: &[u8]) -> Record
 {
     record_parser::read_record(b"KEY.1", b'|', 3, source)
 }
-
-// goes
-pub fn parses_public_key(source: &[u8]) -> bool
-    ensures { λ r. ⌜ r ≡ parsesPublicKey (now (source .entry)) ⌝ }
-{
-    let k = read_public_key(source);
-    k.parsed
-}
-
-// goes
-pub fn parses_response(source: &[u8]) -> bool
-    ensures { λ r. ⌜ r ≡ parsesResponse (now (source .entry)) ⌝ }
-{
-    let a = read_response(source);
-    a.parsed
-}
-
-// goes
-pub fn parses_key(source: &[u8]) -> bool
-    ensures { λ r. ⌜ r ≡ parsesKey (now (source .entry)) ⌝ }
-{
-    let k = read_key(source);
-    k.parsed
-}

@@ -6,7 +6,8 @@ ghost use mathlib.Core.List.{[], _∷_};
 ghost use Prim.Native.Nat.{_+_, _≤_};
 ghost use lib.ListN.{length};
 ghost use Rattle.byte_strings.specs.Wrote.{Writes};
-ghost use Rattle.field_values.specs.Values.{string};
+ghost use Rattle.field_values.specs.Values.{string, payloadBytes};
+ghost use Rattle.message_frames.specs.Frames.{headBytes};
 ghost use Rattle.message_replies.specs.Responses.{responseBytes};
 ghost use Rattle.engine.specs.Refusals.{refusal, km};
 ghost use Rattle.engine.specs.Answers.{responseOf, refusalReply};
@@ -27,28 +28,51 @@ fn sm_text(digit: u8) -> [u8; 7]
     [b'S', b'M', b'.', b'3', b'B', b'.', digit]
 }
 
-// Writes the response to a refusal with a number under a header, and answers its length.
-fn write_refusal(response: &mut [u8], header: &[u8], t: ReplyForm, number: u8) -> usize
-    requires { ⌜ (3 ≤ length (now header)) × (length (now header) + 16 ≤ length (now response)) ⌝ }
-    ensures { λ r. ⌜ Writes response 0
-        (responseBytes (now (header .entry)) (statusIn t) (fieldsIn t number)) r ⌝ }
-    ensures fits { λ r. ⌜ r ≤ length (now (response .entry)) ⌝ }
+// Writes a header and the status of a refusal, and answers the place after them.
+fn put_status(dst: &mut [u8], header: &[u8], form: ReplyForm) -> usize
+    requires { ⌜ (3 ≤ length (now header)) × (length (now header) + 2 ≤ length (now dst)) ⌝ }
+    ensures { λ r. ⌜ Writes dst 0 (headBytes (now (header .entry)) (statusIn form)) r ⌝ }
+    ensures short { λ r. ⌜ r ≤ length (now (header .entry)) + 2 ⌝ }
 {
-    match t {
-        ReplyForm::Nothing => response_writer::reply(response, header, b""),
+    match form {
+        ReplyForm::Nothing => message_writer::put_head(dst, header, b""),
         ReplyForm::Status(a, b) => {
-            let s = [a, b];
-            response_writer::reply(response, header, &s)
+            let status = [a, b];
+            message_writer::put_head(dst, header, &status)
         }
+        ReplyForm::Numbered | ReplyForm::Module(_) => message_writer::put_head(dst, header, b"EE"),
+    }
+}
+
+// Writes the fields of a refusal with a number, and answers the place after them.
+fn put_reason(dst: &mut [u8], at: usize, form: ReplyForm, number: u8) -> usize
+    requires { ⌜ at + 9 ≤ length (now dst) ⌝ }
+    ensures { λ r. ⌜ Writes dst at (payloadBytes (fieldsIn form number)) r ⌝ }
+    ensures short { λ r. ⌜ r ≤ at + 9 ⌝ }
+{
+    match form {
+        ReplyForm::Nothing | ReplyForm::Status(_, _) => at,
         ReplyForm::Numbered => {
-            let v = km_text(number);
-            response_writer::reply_text(response, header, b"EE", &v)
+            let text = km_text(number);
+            field_writer::put_string(dst, at, &text)
         }
-        ReplyForm::Module(d) => {
-            let v = sm_text(d);
-            response_writer::reply_text(response, header, b"EE", &v)
+        ReplyForm::Module(digit) => {
+            let text = sm_text(digit);
+            field_writer::put_string(dst, at, &text)
         }
     }
+}
+
+// Writes the response to a refusal with a number under a header, and answers its length.
+fn write_refusal(response: &mut [u8], header: &[u8], form: ReplyForm, number: u8) -> usize
+    requires { ⌜ (3 ≤ length (now header)) × (length (now header) + 16 ≤ length (now response)) ⌝ }
+    ensures { λ r. ⌜ Writes response 0
+        (responseBytes (now (header .entry)) (statusIn form) (fieldsIn form number)) r ⌝ }
+    ensures fits { λ r. ⌜ r ≤ length (now (response .entry)) ⌝ }
+{
+    let start = put_status(response, header, form);
+    let end = put_reason(response, start, form, number);
+    message_writer::close_message(response, end)
 }
 
 // Writes the response to a refused request, and answers its length: nothing for refusals 1 to 4, and under GL!ER
@@ -59,14 +83,14 @@ pub fn refuse(response: &mut [u8], request: &[u8], reason: Refusal) -> usize
         (responseOf (refusalReply (now (request .entry)) reason)) n ⌝ }
     ensures fits { λ n. ⌜ n ≤ length (now (response .entry)) ⌝ }
 {
-    let e = response_numbers::entry_of(reason);
-    let n = e.0;
-    let t = e.1;
-    if n <= 4 {
+    let entry = response_numbers::entry_of(reason);
+    let number = entry.0;
+    let form = entry.1;
+    if number <= 4 {
         return 0;
     }
-    if n <= 7 {
-        return write_refusal(response, b"GL!ER", t, n);
+    if number <= 7 {
+        return write_refusal(response, b"GL!ER", form, number);
     }
-    write_refusal(response, message_frames::header(request), t, n)
+    write_refusal(response, message_frames::header(request), form, number)
 }

@@ -1,54 +1,50 @@
--- What each arm requires is known of its decision, and what it wrote is the decision's response.
-use mathlib.Core.Path.{_≡_, refl, sym, _∙_}
-use mathlib.Core.Bool.{true}
+-- What each arm requires is known of its decision, and what it wrote are the decision's fields, or its response.
+use mathlib.Core.Path.{_≡_, refl, ap, _∙_}
 use mathlib.Core.List.{List, [], _∷_, _++_}
 use Prim.Native.Nat.{ℕ, _+_, _*_, _^_, _≤_, _<_}
 use native.Mathlib.Omega.{arith}
 use types.Run.{OneOf, miss}
 use denote.Enum.Declared.{tagOf}
 use lib.ListN.{length, getD, take, length-map, List·getD-map}
-use lib.Seq.{length-take-le}
 use Rattle.byte_strings.specs.Wrote.{Wrote}
-use Rattle.field_values.specs.Values.{number, string}
-use Rattle.message_frames.specs.Frames.{headerOf}
+use Rattle.byte_strings.proofs.Writes.{none}
+use Rattle.byte_bounds.specs.Bounds.{bytesIn, FitIn}
+use Rattle.field_values.specs.Values.{number, string, fieldBytes, payloadBytes}
+use Rattle.message_frames.specs.Frames.{headerOf, payloadOf, ending, headBytes}
 use Rattle.message_replies.specs.Responses.{responseBytes}
-use Rattle.message_commands.specs.declared.Command.the-variants.{KF}
 use Rattle.row_types.specs.Lists.{trimmed, numbersFrom}
 use Rattle.row_types.specs.Slots.{freeSlot}
 use Rattle.row_types.specs.Slots as slot
 use Rattle.row_types.specs.Registers.{isUnder, freeRegister}
 use Rattle.row_types.specs.RowReplies.{slotFields, numberFields, queryFields}
+use Rattle.row_types.specs.Supplements.{loadRequest}
 use Rattle.row_types.specs.declared.SlotRow.{SlotRow}
 use Rattle.row_types.specs.declared.RegisterRow.{RegisterRow}
 use Rattle.card_writer.specs.declared.Stored.{Stored}
 use Rattle.row_types.specs.declared.Supplement.{Supplement}
 use Rattle.row_types.specs.declared.Tables.{Tables}
 use Rattle.row_types.proofs.PlaceCounts.{getD-any}
-use Rattle.row_index.specs.Found.{isThe, AreOwnedBy}
+use Rattle.row_index.specs.Found.{isThe}
 use Rattle.row_index.specs.Lent.{rowWith, rowsWith, tablesWith, tablesWithCards}
-use Rattle.row_index.proofs.LentLaws.{take-short}
 use Rattle.row_index.proofs.NumberLaws.{same-numbers}
 use Rattle.response_refusals.specs.RefusalForms.{CanRefuse}
-use Rattle.engine.specs.Requests.{fieldsIn, areFieldsOf}
+use Rattle.response_refusals.proofs.ReplyLaws.{replied, header-five}
+use Rattle.response_fields.proofs.FieldsWritten.{one-field}
+use Rattle.engine.specs.Requests.{fieldsIn}
 use Rattle.engine.specs.Refusals.{refusal}
-use Rattle.engine.specs.Answers.{accepted}
+use Rattle.engine.specs.Answers.{accepted, responseOf, refusalReply}
 use Rattle.engine.specs.declared.Decision.{Decision}
 use Rattle.engine.specs.declared.Decision.the-variants.{Refuse, Reset, Pend, Open, Load, Finish, Delete, Clear, Show, Enumerate, Query}
 use Rattle.engine.specs.declared.Refusal.{Refusal}
 use Rattle.engine.specs.declared.Outcome.{Outcome}
 use Rattle.engine.specs.declared.Outcome.the-variants.{Done}
 use Rattle.engine.proofs.Decision.{the-type}
-use Rattle.response_parts.specs.Parts.{kmcidOf, cardOf}
-use Rattle.response_sessions.specs.Room.{HasRoom}
-use Rattle.response_requests.specs.Responding.{outcomeFor, responseFor, CanRespond}
+use Rattle.decide_parts.specs.Parts.{kmcidOf}
+use Rattle.decide_parts.specs.declared.Parts.{Parts}
+use Rattle.response_requests.specs.Responding.{outcomeFor, fieldsFor, responseFor, HasRoom, CanRespond}
 
--- an arm of a match: d is the decision e
-module _ (d e : Decision) (p : d ≡ e) where
-  pub outcome-arm : (o : Outcome) → o ≡ outcomeFor e → o ≡ outcomeFor d
-  outcome-arm o q = rw p q
-
-  pub written-arm : {a b : List ℕ} {n : ℕ} (t : Tables) (x : Supplement) (q : List ℕ) → Wrote a 0 (responseFor e t x q) b n → Wrote a 0 (responseFor d t x q) b n
-  written-arm t x q w = rw p w
+pub outcome-arm : (d e : Decision) → d ≡ e → (o : Outcome) → o ≡ outcomeFor e → o ≡ outcomeFor d
+outcome-arm d e p o q = rw p q
 
 -- the commands that leave no slot state
 abbrev stateless : List ℕ
@@ -67,95 +63,63 @@ done-arm (Show k) o = refl
 done-arm Enumerate o = refl
 done-arm (Query k) o = refl
 
--- the commands whose response has no field
-abbrev plainOnes : List ℕ
-plainOnes = 1 ∷ 5 ∷ 6 ∷ 7 ∷ []
-
-module _ (t : Tables) (x : Supplement) (q : List ℕ) where
-  pub plain-room : (d : Decision) (owners : List ℕ) (c : Stored) (m : ℕ) → CanRespond d t owners c x q m → OneOf plainOnes (tagOf the-type d) → HasRoom (length q) m
-  plain-room (Refuse r) owners c m h o = absurd (miss plainOnes 0 tt o)
-  plain-room Reset owners c m h o = h
-  plain-room (Pend k) owners c m h o = h .0
-  plain-room (Open k) owners c m h o = h .0
-  plain-room (Load k) owners c m h o = h .0
-  plain-room (Finish k) owners c m h o = h
-  plain-room (Delete k) owners c m h o = h
-  plain-room (Clear k) owners c m h o = h
-  plain-room (Show k) owners c m h o = h .0
-  plain-room Enumerate owners c m h o = h .0
-  plain-room (Query k) owners c m h o = h .0
-
-  pub plain-arm : {a b : List ℕ} {n : ℕ} (d : Decision) → OneOf plainOnes (tagOf the-type d) → Wrote a 0 (responseBytes (headerOf q) accepted []) b n → Wrote a 0 (responseFor d t x q) b n
-  plain-arm (Refuse r) o w = absurd (miss plainOnes 0 tt o)
-  plain-arm Reset o w = w
-  plain-arm (Pend k) o w = absurd (miss plainOnes 2 tt o)
-  plain-arm (Open k) o w = absurd (miss plainOnes 3 tt o)
-  plain-arm (Load k) o w = absurd (miss plainOnes 4 tt o)
-  plain-arm (Finish k) o w = w
-  plain-arm (Delete k) o w = w
-  plain-arm (Clear k) o w = w
-  plain-arm (Show k) o w = absurd (miss plainOnes 8 tt o)
-  plain-arm Enumerate o w = absurd (miss plainOnes 9 tt o)
-  plain-arm (Query k) o w = absurd (miss plainOnes 10 tt o)
-
--- what an arm requires is known of its decision
-module _ (d : Decision) (slots : List SlotRow) (n : ℕ) (rows : List RegisterRow) (m : ℕ) (owners : List ℕ) (c : Stored) (x : Supplement) (q : List ℕ) (room : ℕ) (h : CanRespond d (tablesWith slots n rows m) owners c x q room) where
-  pub refuse-room : (r : Refusal) → d ≡ Refuse r → CanRefuse (refusal r .header) (length q) room
-  refuse-room r p = rw p at h
+-- what an arm of put_fields requires is known of its decision, and what it wrote are the decision's fields: p are the parts, at the place, r the place after
+module _ (d : Decision) (p : Parts) (slots : List SlotRow) (n : ℕ) (rows : List RegisterRow) (m : ℕ) (owners : List ℕ) (c : Stored) (x : Supplement) (q : List ℕ) (room : ℕ) (h : CanRespond d p (tablesWith slots n rows m) owners c x q room) where
+  abbrev t : Tables
+  t = tablesWith slots n rows m
 
   module _ (k : ℕ) where
-    module _ (p : d ≡ Pend k) where
-      pub pend-room : HasRoom (length q) room
-      pend-room = (rw p at h) .0
+    -- s is the payload, v the part of it within the slot's bounds
+    module _ (o : d ≡ Pend k) (s : List ℕ) (i : s ≡ payloadOf q) where
+      pub pend-part : FitIn (length s) (p .slot)
+      pend-part = rw i ((rw o at h) .1 .0 .0 .0)
 
-      pub pend-fields : areFieldsOf KF (fieldsIn q) ≡ true
-      pend-fields = (rw p at h) .1 .0
+      module _ (v : List ℕ) (j : v ≡ bytesIn s (p .slot)) where
+        pend-kmcid : v ≡ kmcidOf (fieldsIn q)
+        pend-kmcid = j ∙ rw i ((rw o at h) .1 .0 .0 .1)
 
-      pub pend-kmcid : length (kmcidOf (fieldsIn q)) ≤ 40
-      pend-kmcid = (rw p at h) .1 .1 .0
+        pub pend-short : length v ≤ 40
+        pend-short = rw pend-kmcid ((rw o at h) .1 .1 .0)
 
-      pub pend-request : x .«request_length» ≤ 700
-      pend-request = (rw p at h) .1 .1 .1
+        pub pend-written : {a b : List ℕ} {at r : ℕ} → Wrote a at (payloadBytes (string v ∷ string (loadRequest x) ∷ [])) b r → Wrote a at (payloadBytes (fieldsFor d t x q)) b r
+        pend-written w = rw (o, ← pend-kmcid) w
 
-    module _ (p : d ≡ Open k) where
-      pub open-room : HasRoom (length q) room
-      open-room = (rw p at h) .0
+    pub pend-request : d ≡ Pend k → x .«request_length» ≤ 700
+    pend-request o = (rw o at h) .1 .1 .1
 
-      pub open-fields : areFieldsOf KF (fieldsIn q) ≡ true
-      open-fields = (rw p at h) .1 .0
+    module _ (o : d ≡ Open k) (s : List ℕ) (i : s ≡ payloadOf q) where
+      pub open-part : FitIn (length s) (p .slot)
+      open-part = rw i ((rw o at h) .1 .0 .0)
 
-      pub open-kmcid : length (kmcidOf (fieldsIn q)) ≤ 40
-      open-kmcid = (rw p at h) .1 .1
+      module _ (v : List ℕ) (j : v ≡ bytesIn s (p .slot)) where
+        open-kmcid : v ≡ kmcidOf (fieldsIn q)
+        open-kmcid = j ∙ rw i ((rw o at h) .1 .0 .1)
 
-    module _ (p : d ≡ Load k) where
-      pub load-room : HasRoom (length q) room
-      load-room = (rw p at h) .0
+        open-length : length v ≤ 40
+        open-length = rw open-kmcid ((rw o at h) .1 .1)
+
+        pub open-fits : (at l : ℕ) → at + 744 ≤ l → at + length v + 2 ≤ l
+        open-fits at l g = omega (arith, open-length)
+
+        pub open-short : (at r : ℕ) → r ≡ at + length v + 2 → r ≤ at + 744
+        open-short at r e = omega (arith, open-length)
+
+        pub open-written : {a b : List ℕ} {at r : ℕ} → Wrote a at (fieldBytes (string v)) b r → Wrote a at (payloadBytes (fieldsFor d t x q)) b r
+        open-written w = rw o (one-field (string (kmcidOf (fieldsIn q))) (rw (← open-kmcid) w))
+
+    module _ (o : d ≡ Load k) where
+      pub load-place : k < 32
+      load-place = (rw o at h) .1 .1 .1
 
       pub load-long : c .length ≤ 256
-      load-long = (rw p at h) .1 .0
+      load-long = (rw o at h) .1 .0
 
-      pub load-place : k < 32
-      load-place = (rw p at h) .1 .1 .1
+      pub load-written : {a b : List ℕ} {at r : ℕ} → Wrote a at (payloadBytes (number (k + 1) ∷ string (take (c .length) (c .card)) ∷ [])) b r → Wrote a at (payloadBytes (fieldsFor d t x q)) b r
+      load-written w = rw o (rw ((rw o at h) .1 .1 .0) at w)
 
-      pub load-card : take (c .length) (c .card) ≡ cardOf x (fieldsIn q)
-      load-card = (rw p at h) .1 .1 .0
-
-      -- what is lent of the card's space
-      pub load-front : length (c .card) ≡ 256 → c .length ≡ length (take (c .length) (c .card))
-      load-front z = let l = load-long in sym (length-take-le (c .length) (c .card) (omega arith))
-
-      pub load-part : length (c .card) ≡ 256 → c .length ≤ length (c .card)
-      load-part z = let l = load-long in omega arith
-
-      pub load-short : length (take (c .length) (c .card)) ≤ 256
-      load-short = let l = load-long in omega (arith, take-short (c .length) (c .card))
-
-    module _ (p : d ≡ Show k) where
-      pub show-room : HasRoom (length q) room
-      show-room = (rw p at h) .0
-
+    module _ (o : d ≡ Show k) where
       pub show-place : k < 32
-      show-place = (rw p at h) .1
+      show-place = (rw o at h) .1
 
       pub show-in : (l : ℕ) → l ≡ 32 → k < l
       show-in l z = let g = show-place in omega arith
@@ -164,12 +128,9 @@ module _ (d : Decision) (slots : List SlotRow) (n : ℕ) (rows : List RegisterRo
       pub show-fits : k * 256 < 2 ^ 64
       show-fits = let g = show-place in omega arith
 
-    module _ (p : d ≡ Query k) where
-      pub query-room : HasRoom (length q) room
-      query-room = (rw p at h) .0
-
+    module _ (o : d ≡ Query k) where
       pub query-place : k < 8
-      query-place = (rw p at h) .1 .0
+      query-place = (rw o at h) .1 .0
 
       -- a slot row has 73 bytes
       pub query-fits : k * 73 < 2 ^ 64
@@ -179,36 +140,106 @@ module _ (d : Decision) (slots : List SlotRow) (n : ℕ) (rows : List RegisterRo
       query-sum j l = let g = query-place in omega arith
 
       pub query-count : m ≤ 32
-      query-count = (rw p at h) .1 .1 .0
+      query-count = (rw o at h) .1 .1 .0
 
-      pub query-owned : AreOwnedBy (k + 1) (slot.kmcidOf (getD slots k freeSlot)) (take m owners) (take m rows)
-      query-owned = (rw p at h) .1 .1 .1
+      pub query-written : {a b : List ℕ} {at r : ℕ} (y : SlotRow) → length slots ≡ 8
+          → Wrote a at (payloadBytes (slotFields (getD slots k y) ++ numberFields (numbersFrom (isThe (k + 1)) 1 (take m owners)))) b r
+          → Wrote a at (payloadBytes (fieldsFor d t x q)) b r
+      unfolding queryFields
+      query-written y z w =
+          let e = same-numbers (isThe (k + 1)) (isUnder (slot.kmcidOf (getD slots k freeSlot))) 1 (take m owners) (take m rows) ((rw o at h) .1 .1 .1) in
+          let g = query-place in
+          rw o (rw (e, getD-any slots k y freeSlot (omega arith)) at w)
 
-  module _ (p : d ≡ Enumerate) where
-    pub enumerate-room : HasRoom (length q) room
-    enumerate-room = (rw p at h) .0
+  pub enumerate-count : d ≡ Enumerate → n ≤ 8
+  enumerate-count o = (rw o at h) .1
 
-    pub enumerate-count : n ≤ 8
-    enumerate-count = (rw p at h) .1
+-- an arm whose callee speaks as the definition does
+pub fields-arm : {a b : List ℕ} {at r : ℕ} (d e : Decision) (t : Tables) (x : Supplement) (q : List ℕ) → d ≡ e → Wrote a at (payloadBytes (fieldsFor e t x q)) b r → Wrote a at (payloadBytes (fieldsFor d t x q)) b r
+fields-arm d e t x q o w = rw o w
 
 -- the card at a place, as a row
 card-at : (cards : List (List ℕ)) (k : ℕ) → k < length cards → (y : List ℕ) (r : RegisterRow) → getD (rowsWith cards) k r ≡ rowWith (getD cards k y)
 card-at cards k h y r = getD-any (rowsWith cards) k r (rowWith y) (rw (length-map cards rowWith) h) ∙ List·getD-map rowWith cards k y
 
--- what was written of a card or a row at a place is the decision's response, whatever stands beyond the places
-module _ {a b : List ℕ} {j : ℕ} (d : Decision) (slots : List SlotRow) (n m : ℕ) (x : Supplement) (q : List ℕ) (k : ℕ) where
-  pub load-written : (t : Tables) (card : List ℕ) → d ≡ Load k → card ≡ cardOf x (fieldsIn q) → Wrote a 0 (responseBytes (headerOf q) accepted (number (k + 1) ∷ string card ∷ [])) b j → Wrote a 0 (responseFor d t x q) b j
-  load-written t card p e w = rw p (rw e at w)
+pub show-written : {a b : List ℕ} {at r : ℕ} (d : Decision) (slots : List SlotRow) (n m : ℕ) (x : Supplement) (q : List ℕ) (k : ℕ) (cards : List (List ℕ)) (y : List ℕ) → d ≡ Show k → length cards ≡ 32 → k < 32
+    → Wrote a at (payloadBytes (string (trimmed (getD cards k y)) ∷ [])) b r → Wrote a at (payloadBytes (fieldsFor d (tablesWithCards slots n cards m) x q)) b r
+show-written d slots n m x q k cards y o z h w = rw (o, card-at cards k (omega arith) y freeRegister) w
 
-  pub show-written : (cards : List (List ℕ)) (y : List ℕ) → d ≡ Show k → length cards ≡ 32 → k < 32 → Wrote a 0 (responseBytes (headerOf q) accepted (string (trimmed (getD cards k y)) ∷ [])) b j
-      → Wrote a 0 (responseFor d (tablesWithCards slots n cards m) x q) b j
-  show-written cards y p z h w = rw (p, card-at cards k (omega arith) y freeRegister) w
+-- the decisions whose response has no field, and a refusal
+abbrev bareOnes : List ℕ
+bareOnes = 0 ∷ 1 ∷ 5 ∷ 6 ∷ 7 ∷ []
 
-  pub query-written : (rows : List RegisterRow) (owners : List ℕ) (y : SlotRow) → d ≡ Query k → length slots ≡ 8 → k < 8
-      → AreOwnedBy (k + 1) (slot.kmcidOf (getD slots k freeSlot)) (take m owners) (take m rows)
-      → Wrote a 0 (responseBytes (headerOf q) accepted (slotFields (getD slots k y) ++ numberFields (numbersFrom (isThe (k + 1)) 1 (take m owners)))) b j
-      → Wrote a 0 (responseFor d (tablesWith slots n rows m) x q) b j
-  unfolding queryFields
-  query-written rows owners y p z h o w =
-      let e = same-numbers (isThe (k + 1)) (isUnder (slot.kmcidOf (getD slots k freeSlot))) 1 (take m owners) (take m rows) o in
-      rw p (rw (e, getD-any slots k y freeSlot (omega arith)) at w)
+pub no-fields : (d : Decision) (t : Tables) (x : Supplement) (q a : List ℕ) (at : ℕ) → OneOf bareOnes (tagOf the-type d) → Wrote a at (payloadBytes (fieldsFor d t x q)) a at
+no-fields (Refuse r) t x q a at o = none a at
+no-fields Reset t x q a at o = none a at
+no-fields (Pend k) t x q a at o = absurd (miss bareOnes 2 tt o)
+no-fields (Open k) t x q a at o = absurd (miss bareOnes 3 tt o)
+no-fields (Load k) t x q a at o = absurd (miss bareOnes 4 tt o)
+no-fields (Finish k) t x q a at o = none a at
+no-fields (Delete k) t x q a at o = none a at
+no-fields (Clear k) t x q a at o = none a at
+no-fields (Show k) t x q a at o = absurd (miss bareOnes 8 tt o)
+no-fields Enumerate t x q a at o = absurd (miss bareOnes 9 tt o)
+no-fields (Query k) t x q a at o = absurd (miss bareOnes 10 tt o)
+
+-- respond: a refusal, and the others
+module _ (d : Decision) (p : Parts) (t : Tables) (owners : List ℕ) (c : Stored) (x : Supplement) (q : List ℕ) (room : ℕ) (h : CanRespond d p t owners c x q room) where
+  module _ (r : Refusal) (o : d ≡ Refuse r) where
+    pub refuse-room : CanRefuse (refusal r .header) (length q) room
+    refuse-room = rw o at h
+
+    pub refused-written : {a b : List ℕ} {n : ℕ} → Wrote a 0 (responseOf (refusalReply q r)) b n → Wrote a 0 (responseFor d t x q) b n
+    refused-written w = rw o w
+
+  -- the buffer keeps its length
+  pub still-room : (k : ℕ) → k ≡ room → CanRespond d p t owners c x q k
+  still-room k e = rw e h
+
+-- the decisions that are no refusal
+abbrev acceptedOnes : List ℕ
+acceptedOnes = 1 ∷ 2 ∷ 3 ∷ 4 ∷ 5 ∷ 6 ∷ 7 ∷ 8 ∷ 9 ∷ 10 ∷ []
+
+-- they have room, and are answered with their fields
+module _ (p : Parts) (t : Tables) (owners : List ℕ) (c : Stored) (x : Supplement) (q : List ℕ) (room : ℕ) where
+  accepted-so : (d : Decision) → CanRespond d p t owners c x q room → OneOf acceptedOnes (tagOf the-type d) → HasRoom (length q) room × (responseFor d t x q ≡ responseBytes (headerOf q) accepted (fieldsFor d t x q))
+  accepted-so (Refuse r) h o = absurd (miss acceptedOnes 0 tt o)
+  accepted-so Reset h o = (h, refl)
+  accepted-so (Pend k) h o = (h .0, refl)
+  accepted-so (Open k) h o = (h .0, refl)
+  accepted-so (Load k) h o = (h .0, refl)
+  accepted-so (Finish k) h o = (h, refl)
+  accepted-so (Delete k) h o = (h, refl)
+  accepted-so (Clear k) h o = (h, refl)
+  accepted-so (Show k) h o = (h .0, refl)
+  accepted-so Enumerate h o = (h .0, refl)
+  accepted-so (Query k) h o = (h .0, refl)
+
+-- s is the header of the request
+module _ (d : Decision) (p : Parts) (t : Tables) (owners : List ℕ) (c : Stored) (x : Supplement) (q : List ℕ) (room : ℕ) (h : CanRespond d p t owners c x q room) (o : OneOf acceptedOnes (tagOf the-type d)) (s : List ℕ) (i : s ≡ headerOf q) where
+  five : length s ≡ 5
+  five = ap length i ∙ header-five q (accepted-so p t owners c x q room d h o .0 .0)
+
+  long : 1024 ≤ room
+  long = accepted-so p t owners c x q room d h o .0 .1
+
+  pub head-long : 3 ≤ length s
+  head-long = omega (arith, five)
+
+  pub head-fits : length s + 2 ≤ room
+  head-fits = omega (arith, five, long)
+
+  module _ (a : ℕ) (e : a ≡ length s + 2) where
+    pub fields-fit : (k : ℕ) → k ≡ room → a + 744 ≤ k
+    fields-fit k z = omega (arith, five, long)
+
+    module _ (b : ℕ) (l : b ≤ a + 744) where
+      pub ending-fits : (j k : ℕ) → j ≡ room → k ≡ j → b + 5 ≤ k
+      ending-fits j k y z = omega (arith, five, long)
+
+      pub response-fits : (r : ℕ) → r ≡ b + 5 → r ≤ room
+      response-fits r g = omega (arith, five, long)
+
+      pub accepted-written : {u v w z : List ℕ} {r : ℕ} → room ≡ length u → Wrote u 0 (headBytes s accepted) v a → Wrote v a (payloadBytes (fieldsFor d t x q)) w b → Wrote w b (ending (take b w)) z r
+          → Wrote u 0 (responseFor d t x q) z r
+      accepted-written g y m n = rw (accepted-so p t owners c x q room d h o .1, ← i) (replied s accepted (fieldsFor d t x q) y m n (omega (arith, five, long)))

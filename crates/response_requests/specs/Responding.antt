@@ -2,13 +2,11 @@
 -- tables, x the supplement, q the request, k the place of a row, counted from 0.
 use Prim.Native.Nat.{ℕ, _+_, _≤_, _<_}
 use mathlib.Core.Path.{_≡_}
-use mathlib.Core.Bool.{true}
 use mathlib.Core.List.{List, [], _∷_}
 use lib.ListN.{length, getD, take}
 use Rattle.field_values.specs.Values.{Value, number, string}
-use Rattle.message_frames.specs.Frames.{headerOf}
+use Rattle.message_frames.specs.Frames.{headerOf, payloadOf}
 use Rattle.message_replies.specs.Responses.{responseBytes}
-use Rattle.message_commands.specs.declared.Command.the-variants.{KF}
 use Rattle.row_types.specs.Supplements.{loadRequest}
 use Rattle.row_types.specs.Slots.{freeSlot}
 use Rattle.row_types.specs.Slots as slot
@@ -21,16 +19,16 @@ use Rattle.row_types.specs.declared.Tables.{Tables}
 use Rattle.row_types.specs.declared.SlotState.the-variants.{Free, Pending, Loading, Idle}
 use Rattle.row_index.specs.Found.{AreOwnedBy}
 use Rattle.engine.specs.Refusals.{refusal}
-use Rattle.engine.specs.Requests.{fieldsIn, areFieldsOf}
+use Rattle.engine.specs.Requests.{fieldsIn}
 use Rattle.engine.specs.Answers.{accepted, responseOf, refusalReply}
-use Rattle.response_parts.specs.Parts.{kmcidOf, cardOf}
 use Rattle.engine.specs.declared.Decision.{Decision}
 use Rattle.engine.specs.declared.Decision.the-variants.{Refuse, Reset, Pend, Open, Load, Finish}
 use Rattle.engine.specs.declared.Decision.the-variants.{Delete, Clear, Show, Enumerate, Query}
 use Rattle.engine.specs.declared.Outcome.{Outcome}
 use Rattle.engine.specs.declared.Outcome.the-variants.{Accepted, Done, Refused}
+use Rattle.decide_parts.specs.Parts.{kmcidOf, cardOf, HasParts}
+use Rattle.decide_parts.specs.declared.Parts.{Parts}
 use Rattle.response_refusals.specs.RefusalForms.{CanRefuse}
-use Rattle.response_sessions.specs.Room.{HasRoom}
 
 -- an accepted session command's answer carries the slot state that it leaves; session commands are KC, KR, KL, KF, KX
 abbrev pub outcomeFor : Decision → Outcome
@@ -46,53 +44,64 @@ outcomeFor (Show k) = Done  -- SM?GA
 outcomeFor Enumerate = Done  -- SM?GL
 outcomeFor (Query k) = Done  -- SM?KQ
 
--- the response to an accepted request, with the fields of its reply
-abbrev pub acceptedWith : List ℕ → List Value → List ℕ
-acceptedWith q fields = responseBytes (headerOf q) accepted fields
+-- the fields of the response to an accepted request, as the clause of 001 that is named has them; SM?GL's are the slots
+-- row by row
+abbrev pub fieldsFor : Decision → Tables → Supplement → List ℕ → List Value
+fieldsFor (Refuse r) t x q = []  -- not accepted
+fieldsFor Reset t x q = []  -- RS 6.2.7
+fieldsFor (Pend k) t x q = string (kmcidOf (fieldsIn q)) ∷ string (loadRequest x) ∷ []  -- KC 6.3.3
+fieldsFor (Open k) t x q = string (kmcidOf (fieldsIn q)) ∷ []  -- KR document 01: "the slot"
+fieldsFor (Load k) t x q = number (k + 1) ∷ string (cardOf x (fieldsIn q)) ∷ []  -- KL 6.3.5
+fieldsFor (Finish k) t x q = []  -- KF 6.3.6
+fieldsFor (Delete k) t x q = []  -- KX 6.3.7
+fieldsFor (Clear k) t x q = []  -- KD 6.3.9
+fieldsFor (Show k) t x q = string (storedIn (getD (t .registers) k freeRegister)) ∷ []  -- GA 6.3.8
+fieldsFor Enumerate t x q = nameFields (slotNames (slotRows t))  -- GL 6.3.1
+fieldsFor (Query k) t x q = queryFields (getD (t .slots) k freeSlot) (registerRows t)  -- KQ 6.3.2
 
--- the response; its fields are those of the clause of 001 that is named, SM?GL's the slots row by row
+-- the response by its outcome: that of a refusal; else status 00 and the fields
+abbrev pub responseWith : Outcome → List Value → List ℕ → List ℕ
+responseWith (Refused r) fields q = responseOf (refusalReply q r)
+responseWith (Accepted s) fields q = responseBytes (headerOf q) accepted fields
+responseWith Done fields q = responseBytes (headerOf q) accepted fields
+
 abbrev pub responseFor : Decision → Tables → Supplement → List ℕ → List ℕ
-responseFor (Refuse r) t x q = responseOf (refusalReply q r)
-responseFor Reset t x q = acceptedWith q []  -- RS 6.2.7
-responseFor (Pend k) t x q = acceptedWith q (string (kmcidOf (fieldsIn q)) ∷ string (loadRequest x) ∷ [])  -- KC 6.3.3
-responseFor (Open k) t x q = acceptedWith q (string (kmcidOf (fieldsIn q)) ∷ [])  -- KR document 01: "the slot"
-responseFor (Load k) t x q = acceptedWith q (number (k + 1) ∷ string (cardOf x (fieldsIn q)) ∷ [])  -- KL 6.3.5
-responseFor (Finish k) t x q = acceptedWith q []  -- KF 6.3.6
-responseFor (Delete k) t x q = acceptedWith q []  -- KX 6.3.7
-responseFor (Clear k) t x q = acceptedWith q []  -- KD 6.3.9
-responseFor (Show k) t x q = acceptedWith q (string (storedIn (getD (t .registers) k freeRegister)) ∷ [])  -- GA 6.3.8
-responseFor Enumerate t x q = acceptedWith q (nameFields (slotNames (slotRows t)))  -- GL 6.3.1
-responseFor (Query k) t x q = acceptedWith q (queryFields (getD (t .slots) k freeSlot) (registerRows t))  -- KQ 6.3.2
+responseFor d t x q = responseWith (outcomeFor d) (fieldsFor d t x q) q
+
+-- a request of n bytes, and room for every response
+abbrev pub HasRoom : ℕ → ℕ → Type 0
+HasRoom n room = (10 ≤ n) × (1024 ≤ room)
 
 -- the owners have the slot's number just at the registers under it
 abbrev pub KnowsRegisters : ℕ → Tables → List ℕ → Type 0
 KnowsRegisters k t owners =
     AreOwnedBy (k + 1) (slot.kmcidOf (getD (t .slots) k freeSlot)) (take (t .«register_count») owners) (registerRows t)
 
--- what makes the response fit, c being the card that SM?KL stored; it is known of each decision
-abbrev pub CanRespond : Decision → Tables → List ℕ → Stored → Supplement → List ℕ → ℕ → Type 0
-CanRespond (Refuse r) t owners c x q room = CanRefuse (refusal r .header) (length q) room
-CanRespond Reset t owners c x q room = HasRoom (length q) room
-CanRespond (Pend k) t owners c x q room =
+-- what makes the response fit, p being the parts that the decision was made of, and c the card that SM?KL stored; it is
+-- known of each decision
+abbrev pub CanRespond : Decision → Parts → Tables → List ℕ → Stored → Supplement → List ℕ → ℕ → Type 0
+CanRespond (Refuse r) p t owners c x q room = CanRefuse (refusal r .header) (length q) room
+CanRespond Reset p t owners c x q room = HasRoom (length q) room
+CanRespond (Pend k) p t owners c x q room =
     HasRoom (length q) room
-    × ((areFieldsOf KF (fieldsIn q) ≡ true)
+    × (HasParts (Pend k) p (payloadOf q)
     × ((length (kmcidOf (fieldsIn q)) ≤ 40)
     × (x .«request_length» ≤ 700)))
-CanRespond (Open k) t owners c x q room =
+CanRespond (Open k) p t owners c x q room =
     HasRoom (length q) room
-    × ((areFieldsOf KF (fieldsIn q) ≡ true)
+    × (HasParts (Open k) p (payloadOf q)
     × (length (kmcidOf (fieldsIn q)) ≤ 40))
-CanRespond (Load k) t owners c x q room =
+CanRespond (Load k) p t owners c x q room =
     HasRoom (length q) room
     × ((c .length ≤ 256)
     × ((take (c .length) (c .card) ≡ cardOf x (fieldsIn q))
     × (k < 32)))
-CanRespond (Finish k) t owners c x q room = HasRoom (length q) room
-CanRespond (Delete k) t owners c x q room = HasRoom (length q) room
-CanRespond (Clear k) t owners c x q room = HasRoom (length q) room
-CanRespond (Show k) t owners c x q room = HasRoom (length q) room × (k < 32)
-CanRespond Enumerate t owners c x q room = HasRoom (length q) room × (t .«slot_count» ≤ 8)
-CanRespond (Query k) t owners c x q room =
+CanRespond (Finish k) p t owners c x q room = HasRoom (length q) room
+CanRespond (Delete k) p t owners c x q room = HasRoom (length q) room
+CanRespond (Clear k) p t owners c x q room = HasRoom (length q) room
+CanRespond (Show k) p t owners c x q room = HasRoom (length q) room × (k < 32)
+CanRespond Enumerate p t owners c x q room = HasRoom (length q) room × (t .«slot_count» ≤ 8)
+CanRespond (Query k) p t owners c x q room =
     HasRoom (length q) room
     × ((k < 8)
     × ((t .«register_count» ≤ 32)

@@ -1,16 +1,18 @@
 // The outcome and the response of a decision (document 01, "Questions in order"; 001 clause 5.3).
 use card_writer::Stored;
+use decide_parts::Decided;
 use engine::Decision;
 use engine::Outcome;
 use row_types::SlotRow;
 use row_types::SlotState;
 use row_types::Supplement;
 ghost use mathlib.Core.Path.{_≡_};
-ghost use Prim.Native.Nat.{_≤_};
+ghost use Prim.Native.Nat.{_+_, _≤_};
 ghost use lib.ListN.{length};
 ghost use Rattle.byte_strings.specs.Wrote.{Writes};
+ghost use Rattle.field_values.specs.Values.{payloadBytes};
 ghost use Rattle.row_index.specs.Lent.{tablesWithCards};
-ghost use Rattle.response_requests.specs.Responding.{outcomeFor, responseFor, CanRespond};
+ghost use Rattle.response_requests.specs.Responding.{outcomeFor, fieldsFor, responseFor, CanRespond};
 
 // The outcome of a decision.
 pub fn outcome(decision: Decision) -> Outcome
@@ -31,10 +33,59 @@ pub fn outcome(decision: Decision) -> Outcome
     }
 }
 
-// The response of a decision, and its length: over the slot rows and the cards, with the number of each register's
-// owner.
+// Writes the fields of the response to an accepted request, and answers the place after them.
+fn put_fields(
+    decided: Decided,
+    slots: [SlotRow; 8],
+    slot_count: usize,
+    cards: &[[u8; 256]],
+    register_count: usize,
+    owners: [usize; 32],
+    stored: Stored,
+    supplement: Supplement,
+    request: &[u8],
+    response: &mut [u8],
+    at: usize,
+) -> usize
+    requires { ⌜ (length (now cards) ≡ 32)
+        × CanRespond (decided .decision) (decided .parts)
+        (tablesWithCards slots «slot_count» (now cards) «register_count»)
+        owners stored supplement (now request) (length (now response))
+        × (at + 744 ≤ length (now response)) ⌝ }
+    ensures { λ r. ⌜ Writes response at
+        (payloadBytes (fieldsFor (decided .decision)
+        (tablesWithCards slots «slot_count» (now (cards .entry)) «register_count»)
+        supplement (now (request .entry)))) r ⌝ }
+    ensures short { λ r. ⌜ r ≤ at + 744 ⌝ }
+{
+    let decision = decided.decision;
+    match decision {
+        Decision::Pend(_) => {
+            let kmcid = byte_bounds::part(message_frames::payload(request), decided.parts.slot);
+            response_fields::put_pending(response, at, kmcid, supplement)
+        }
+        Decision::Open(_) => {
+            let kmcid = byte_bounds::part(message_frames::payload(request), decided.parts.slot);
+            field_writer::put_string(response, at, kmcid)
+        }
+        Decision::Load(k) => response_fields::put_loaded(response, at, k, stored),
+        Decision::Show(k) => response_fields::put_card(response, at, &cards[k]),
+        Decision::Enumerate => response_slot_lists::put_names(response, at, slots, slot_count),
+        Decision::Query(k) => {
+            response_slot_queries::put_query(response, at, slots[k], owners, register_count, k + 1)
+        }
+        Decision::Refuse(_)
+        | Decision::Reset
+        | Decision::Finish(_)
+        | Decision::Delete(_)
+        | Decision::Clear(_) => at,
+    }
+}
+
+// Writes the response of what was decided, and answers its length: over the slot rows and the cards, with the number of
+// each register's owner.
 pub fn respond(
-    decision: Decision,
+    decided: Decided,
     slots: [SlotRow; 8],
     slot_count: usize,
     cards: &[[u8; 256]],
@@ -46,36 +97,32 @@ pub fn respond(
     response: &mut [u8],
 ) -> usize
     requires { ⌜ (length (now cards) ≡ 32)
-        × CanRespond decision (tablesWithCards slots «slot_count» (now cards) «register_count»)
+        × CanRespond (decided .decision) (decided .parts)
+        (tablesWithCards slots «slot_count» (now cards) «register_count»)
         owners stored supplement (now request) (length (now response)) ⌝ }
     ensures { λ k. ⌜ Writes response 0
-        (responseFor decision (tablesWithCards slots «slot_count» (now (cards .entry)) «register_count»)
+        (responseFor (decided .decision)
+        (tablesWithCards slots «slot_count» (now (cards .entry)) «register_count»)
         supplement (now (request .entry))) k ⌝ }
     ensures fits { λ k. ⌜ k ≤ length (now (response .entry)) ⌝ }
 {
-    match decision {
-        Decision::Refuse(r) => response_refusals::refuse(response, request, r),
-        Decision::Pend(_) => response_sessions::respond_pending(supplement, request, response),
-        Decision::Open(_) => response_sessions::respond_open(request, response),
-        Decision::Load(k) => {
-            let length = stored.length;
-            let card = stored.card;
-            response_sessions::respond_load(k, &card[..length], request, response)
-        }
-        Decision::Reset | Decision::Finish(_) | Decision::Delete(_) | Decision::Clear(_) => {
-            response_sessions::respond_plainly(request, response)
-        }
-        Decision::Show(k) => response_reads::respond_card(&cards[k], request, response),
-        Decision::Enumerate => response_reads::respond_names(slots, slot_count, request, response),
-        Decision::Query(k) => {
-            response_reads::respond_query(
-                slots[k],
-                owners,
-                register_count,
-                k + 1,
-                request,
-                response,
-            )
-        }
+    let decision = decided.decision;
+    if let Decision::Refuse(reason) = decision {
+        return response_refusals::refuse(response, request, reason);
     }
+    let start = message_writer::put_head(response, message_frames::header(request), b"00");
+    let end = put_fields(
+        decided,
+        slots,
+        slot_count,
+        cards,
+        register_count,
+        owners,
+        stored,
+        supplement,
+        request,
+        response,
+        start,
+    );
+    message_writer::close_message(response, end)
 }

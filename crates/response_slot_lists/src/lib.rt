@@ -1,13 +1,11 @@
-// The response of SM?GL (001 clause 6.3.1): the identifiers of the slots that are not free, row by row.
+// The fields of SM?GL's response (001 clause 6.3.1): the identifiers of the slots that are not free, row by row.
 use row_types::SlotRow;
 use row_types::SlotState;
 ghost use mathlib.Core.List.{[], _∷_};
 ghost use Prim.Native.Nat.{_+_, _≤_};
 ghost use lib.ListN.{length, take};
-ghost use Rattle.byte_strings.specs.Texts.{text};
 ghost use Rattle.byte_strings.specs.Wrote.{Writes};
 ghost use Rattle.field_values.specs.Values.{payloadBytes};
-ghost use Rattle.message_replies.specs.Responses.{responseBytes};
 ghost use Rattle.row_types.specs.RowReplies.{slotNames, nameFields};
 
 // Writes the identifier of a slot, of a free one nothing, and answers the place after it.
@@ -24,7 +22,7 @@ fn put_name(dst: &mut [u8], at: usize, row: SlotRow) -> usize
 }
 
 // Writes the identifiers of those of the first slot_count rows that are not free, and answers the place after them.
-fn put_names(dst: &mut [u8], at: usize, slots: [SlotRow; 8], slot_count: usize) -> usize
+pub fn put_names(dst: &mut [u8], at: usize, slots: [SlotRow; 8], slot_count: usize) -> usize
     requires { ⌜ («slot_count» ≤ 8) × (at + 336 ≤ length (now dst)) ⌝ }
     ensures { λ r. ⌜ Writes dst at
         (payloadBytes (nameFields (slotNames (take «slot_count» slots)))) r ⌝ }
@@ -38,23 +36,4 @@ fn put_names(dst: &mut [u8], at: usize, slots: [SlotRow; 8], slot_count: usize) 
         i += 1;
     }
     end
-}
-
-// Writes the response, and answers its length.
-pub fn reply_names(
-    response: &mut [u8],
-    header: &[u8],
-    slots: [SlotRow; 8],
-    slot_count: usize,
-) -> usize
-    requires { ⌜ («slot_count» ≤ 8)
-        × (3 ≤ length (now header))
-        × (length (now header) + 343 ≤ length (now response)) ⌝ }
-    ensures { λ r. ⌜ Writes response 0
-        (responseBytes (now (header .entry)) (text "00") (nameFields (slotNames (take «slot_count» slots)))) r ⌝ }
-    ensures fits { λ r. ⌜ r ≤ length (now (response .entry)) ⌝ }
-{
-    let a = message_writer::put_head(response, header, b"00");
-    let b = put_names(response, a, slots, slot_count);
-    message_writer::close_message(response, b)
 }

@@ -1,19 +1,14 @@
--- What is told of the registers, one after the other, and all of a query's response.
+-- What is told of the registers, one after the other, and of a slot with them.
 use mathlib.Core.Path.{_≡_, refl}
 use mathlib.Core.Bool.{Bool, true, false, cond}
 use mathlib.Core.List.{List, [], _∷_, _++_, append-assoc}
 use Prim.Native.Nat.{ℕ, _+_, _≤_, _<_}
-use native.Mathlib.Omega.{arith}
 use lib.ListN.{length, getD, take, drop}
 use borrow.Author.Tests.{eq-eqb, ne-eqb}
-use Rattle.byte_strings.specs.Texts.{text}
 use Rattle.byte_strings.specs.Wrote.{Wrote}
 use Rattle.byte_strings.proofs.Writes.{then, none}
 use Rattle.field_values.specs.Values.{number, fieldBytes, payloadBytes}
 use Rattle.field_writer.proofs.WriteLaws.{payload-append}
-use Rattle.message_frames.specs.Frames.{ending, headBytes}
-use Rattle.message_replies.specs.Responses.{responseBytes}
-use Rattle.response_writer.proofs.ReplyLaws.{replied-fields}
 use Rattle.row_types.specs.Lists.{numbersFrom, inTurn}
 use Rattle.row_types.specs.RowReplies.{slotFields, numberFields}
 use Rattle.row_types.specs.declared.SlotRow.{SlotRow}
@@ -48,9 +43,7 @@ module _ (s : ℕ) where
       → length owners ≡ 32 → m ≤ 32 → i < m → Remains d₀ a₀ ws e b (inTurn oneNumber (i + 1) (drop (i + 1) (take m owners)))
   owner-told ws owners m i w inv z r h = turn-written oneNumber (take m owners) i _ _ ws _ _ inv (getD owners i 0) _ _ w (rows-cons 0 owners m i 32 z r h)
 
--- reply_query: head, the slot's fields, the registers' numbers ns, ending
-pub query-replied : {d e f g k : List ℕ} {a b c x : ℕ} (h : List ℕ) (r : SlotRow) (ns : List ℕ) → Wrote d 0 (headBytes h (text "00")) e a → a ≡ length h + 2
-    → Wrote e a (payloadBytes (slotFields r)) f b → b ≤ a + 123 → Wrote f b (payloadBytes (numberFields ns)) g c → c ≤ b + 384
-    → Wrote g c (ending (take c g)) k x → length h + 514 ≤ length d → Wrote d 0 (responseBytes h (text "00") (slotFields r ++ numberFields ns)) k x
-query-replied h r ns u i v m w n z l =
-    replied-fields h (text "00") u i (slotFields r ++ numberFields ns) 507 514 (rw (payload-append (slotFields r) (numberFields ns)) (then v w)) (omega arith) z l (omega arith)
+-- put_query: the slot's fields, and the registers' numbers ns
+pub query-told : {d e f : List ℕ} {a b c : ℕ} (r : SlotRow) (ns : List ℕ) → Wrote d a (payloadBytes (slotFields r)) e b → Wrote e b (payloadBytes (numberFields ns)) f c
+    → Wrote d a (payloadBytes (slotFields r ++ numberFields ns)) f c
+query-told r ns v w = rw (payload-append (slotFields r) (numberFields ns)) (then v w)

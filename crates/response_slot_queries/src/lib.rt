@@ -1,13 +1,11 @@
-// The response of SM?KQ (001 clause 6.3.2): what a slot holds, and the numbers of the registers that hold its keys.
-// Never a card.
+// The fields of SM?KQ's response (001 clause 6.3.2): what a slot holds, and the numbers of the registers that hold its
+// keys. Never a card.
 use row_types::SlotRow;
 ghost use mathlib.Core.List.{[], _∷_, _++_};
 ghost use Prim.Native.Nat.{_+_, _≤_};
 ghost use lib.ListN.{length, take};
-ghost use Rattle.byte_strings.specs.Texts.{text};
 ghost use Rattle.byte_strings.specs.Wrote.{Writes};
 ghost use Rattle.field_values.specs.Values.{payloadBytes};
-ghost use Rattle.message_replies.specs.Responses.{responseBytes};
 ghost use Rattle.row_types.specs.Lists.{numbersFrom};
 ghost use Rattle.row_types.specs.RowReplies.{slotFields, numberFields};
 ghost use Rattle.row_index.specs.Found.{isThe};
@@ -48,25 +46,22 @@ fn put_registers(
     end
 }
 
-// Writes the response, and answers its length. The slot is known to the owners by its number.
-pub fn reply_query(
-    response: &mut [u8],
-    header: &[u8],
+// Writes what is told of a slot, and the numbers of its registers: the owners know the slot by its number. Answers the
+// place after them.
+pub fn put_query(
+    dst: &mut [u8],
+    at: usize,
     row: SlotRow,
     owners: [usize; 32],
     register_count: usize,
     slot: usize,
 ) -> usize
-    requires { ⌜ («register_count» ≤ 32)
-        × (3 ≤ length (now header))
-        × (length (now header) + 514 ≤ length (now response)) ⌝ }
-    ensures { λ r. ⌜ Writes response 0
-        (responseBytes (now (header .entry)) (text "00")
+    requires { ⌜ («register_count» ≤ 32) × (at + 507 ≤ length (now dst)) ⌝ }
+    ensures { λ r. ⌜ Writes dst at
+        (payloadBytes
         (slotFields row ++ numberFields (numbersFrom (isThe slot) 1 (take «register_count» owners)))) r ⌝ }
-    ensures fits { λ r. ⌜ r ≤ length (now (response .entry)) ⌝ }
+    ensures short { λ r. ⌜ r ≤ at + 507 ⌝ }
 {
-    let a = message_writer::put_head(response, header, b"00");
-    let b = response_slots::put_slot(response, a, row);
-    let c = put_registers(response, b, owners, register_count, slot);
-    message_writer::close_message(response, c)
+    let end = response_slots::put_slot(dst, at, row);
+    put_registers(dst, end, owners, register_count, slot)
 }

@@ -1,6 +1,7 @@
 -- `decide_loads::decide_load` meets its contract: the fields are those of the command, or refused.
-use Rattle.decide_payloads.proofs.PayloadLaws.{twoBounds}
-use Rattle.decide_questions.proofs.RecordLaws.{texts-refused, load-by}
+use Rattle.engine.specs.declared.Refusal.the-variants.{BadFields}
+use Rattle.decide_parts.proofs.PartLaws.{refused}
+use Rattle.decide_questions.proofs.RecordLaws.{texts-refused, both-texts}
 use borrow.Author.Needs.{needs}
 use Rattle.decide_loads.proofs.decide_load.Statement.{statement}
 use Rattle.decide_loads.proofs.decide_load.Tie as tie
@@ -12,12 +13,7 @@ decide-load-spec =
     (λ c κs. search needs)
     (λ c. search needs)
     (λ c. search needs)
-    (λ c. search texts-refused)
-    (λ c. search twoBounds)
-    (λ c. search twoBounds)
-    (λ c. search twoBounds)
-    (λ c. search twoBounds)
-    (λ c. search twoBounds)
-    (λ c. search twoBounds)
     (λ c κs. search needs)
-    (λ c. search load-by))
+    (λ c k h i x. refused _ BadFields _ _ (search needs) (search texts-refused))
+    (λ c κs. (search needs, (search needs, search both-texts)))
+    (λ c. search needs))

@@ -1,4 +1,5 @@
 -- `decide_records::known_place` meets its contract.
+use Rattle.byte_bounds.proofs.BoundsLaws.{taken}
 use Rattle.decide_records.proofs.WordLaws.{place-named}
 use borrow.Author.Needs.{needs}
 use Rattle.decide_records.proofs.known_place.Statement.{statement}
@@ -10,4 +11,4 @@ known-place-spec =
     (tie.spec
     (λ c κs. search needs)
     (λ c κs. search needs)
-    (λ c. (search place-named, search needs)))
+    (λ c. search (place-named, taken)))

@@ -1,8 +1,7 @@
--- `decide_sessions::decide_open` meets its contract: each return is the questions so far, in turn.
-use Rattle.card_entries.proofs.EntryLaws.{start-le, end-le}
-use Rattle.decide_questions.proofs.Asking.{asking}
-use Rattle.decide_questions.proofs.RecordLaws.{text-refused, open-by, open-row-by}
-use Rattle.decide_questions.proofs.Known.{place-in, place-fits}
+-- `decide_sessions::decide_open` meets its contract: the field is that of the command, or refused.
+use Rattle.engine.specs.declared.Refusal.the-variants.{BadFields}
+use Rattle.decide_parts.proofs.PartLaws.{refused}
+use Rattle.decide_questions.proofs.RecordLaws.{text-refused, only-text}
 use borrow.Author.Needs.{needs}
 use Rattle.decide_sessions.proofs.decide_open.Statement.{statement}
 use Rattle.decide_sessions.proofs.decide_open.Tie as tie
@@ -14,21 +13,7 @@ decide-open-spec =
     (λ c κs. search needs)
     (λ c. search needs)
     (λ c. search needs)
-    (λ c. search text-refused)
-    (λ c. search start-le)
-    (λ c. search start-le)
-    (λ c. search end-le)
     (λ c κs. search needs)
-    (λ c. search (open-by, asking))
-    (λ c κs. search needs)
-    (λ c. search (open-by, asking))
-    (λ c κs. search needs)
-    (λ c. search needs)
-    (λ c. search needs)
-    (λ c. search (open-by, asking))
-    (λ c. search (place-fits, needs))
-    (λ c. search (place-in, needs))
-    (λ c κs. search needs)
-    (λ c. search (open-row-by, asking) depth 12 fits 6000)
-    (λ c κs. search needs)
-    (λ c. search (open-row-by, asking) depth 12 fits 6000))
+    (λ c k h x. refused _ BadFields _ _ (search needs) (search text-refused))
+    (λ c κs. (search needs, search only-text))
+    (λ c. search needs))

@@ -1,7 +1,7 @@
--- `decide_sessions::decide_pend` meets its contract: each return is the questions so far, in turn.
-use Rattle.card_entries.proofs.EntryLaws.{start-le, end-le}
-use Rattle.decide_questions.proofs.Asking.{asking}
-use Rattle.decide_questions.proofs.RecordLaws.{text-refused, pend-by}
+-- `decide_sessions::decide_pend` meets its contract: the field is that of the command, or refused.
+use Rattle.engine.specs.declared.Refusal.the-variants.{BadFields}
+use Rattle.decide_parts.proofs.PartLaws.{refused}
+use Rattle.decide_questions.proofs.RecordLaws.{text-refused, only-text}
 use borrow.Author.Needs.{needs}
 use Rattle.decide_sessions.proofs.decide_pend.Statement.{statement}
 use Rattle.decide_sessions.proofs.decide_pend.Tie as tie
@@ -13,20 +13,7 @@ decide-pend-spec =
     (λ c κs. search needs)
     (λ c. search needs)
     (λ c. search needs)
-    (λ c. search text-refused)
-    (λ c. search start-le)
-    (λ c. search start-le)
-    (λ c. search end-le)
     (λ c κs. search needs)
-    (λ c. search (pend-by, asking) depth 12 fits 4000)
-    (λ c κs. search needs)
-    (λ c. search (pend-by, asking) depth 12 fits 4000)
-    (λ c κs. search needs)
-    (λ c. search (pend-by, asking) depth 12 fits 4000)
-    (λ c κs. search needs)
-    (λ c. search needs)
-    (λ c. search needs)
-    (λ c. search (pend-by, asking) depth 12 fits 4000)
-    (λ c κs. search needs)
-    (λ c. search (pend-by, asking) depth 12 fits 4000)
-    (λ c. search (pend-by, asking) depth 12 fits 4000))
+    (λ c k h x. refused _ BadFields _ _ (search needs) (search text-refused))
+    (λ c κs. (search needs, search only-text))
+    (λ c. search needs))

@@ -1,5 +1,5 @@
 -- `entry_changes::change_registers` meets its contract, an arm at a time.
-use Rattle.entry_changes.proofs.ChangeLaws.{load-can, load-fits, load-fields, load-length, load-made, delete-sum, delete-count, delete-cards, cards-freed, clear-can, clear-fits, clear-made, registers-kept, has-stored, delete-stores-none, clear-stores-none, stores-none}
+use Rattle.entry_changes.proofs.ChangeLaws.{load-can, load-fits, load-parts, load-length, load-made, delete-sum, delete-count, delete-cards, cards-freed, clear-can, clear-fits, clear-made, registers-kept, has-stored, delete-stores-none, clear-stores-none, stores-none}
 use borrow.Author.Needs.{needs}
 use Rattle.entry_changes.proofs.change_registers.Statement.{statement}
 use Rattle.entry_changes.proofs.change_registers.Tie as tie
@@ -9,7 +9,7 @@ change-registers-spec =
     tie.close
     (tie.spec
     (λ c. search needs)
-    (λ c κs. (search load-fields, search load-length))
+    (λ c κs. (search load-parts, search load-length))
     (λ c. search (load-can, load-fits, needs))
     (λ c. search (load-can, load-fits, needs))
     (λ c. search needs)

@@ -1,5 +1,5 @@
 -- `entry_changes::change_slots` meets its contract, an arm at a time.
-use Rattle.entry_changes.proofs.ChangeLaws.{reset-can, pend-can, pend-fits, pend-fields, open-can, open-fits, finish-can, finish-fits, delete-can, delete-fits, slots-kept, reset-made, pend-made, open-made, finish-made, delete-made}
+use Rattle.entry_changes.proofs.ChangeLaws.{reset-can, pend-can, pend-fits, pend-parts, open-can, open-fits, finish-can, finish-fits, delete-can, delete-fits, slots-kept, reset-made, pend-made, open-made, finish-made, delete-made}
 use borrow.Author.Needs.{needs}
 use Rattle.entry_changes.proofs.change_slots.Statement.{statement}
 use Rattle.entry_changes.proofs.change_slots.Tie as tie
@@ -11,7 +11,7 @@ change-slots-spec =
     (λ c. search needs)
     (λ c κs. search (reset-can, needs))
     (λ c. search needs)
-    (λ c κs. search pend-fields)
+    (λ c κs. search pend-parts)
     (λ c. search (pend-can, pend-fits, needs))
     (λ c. search (pend-can, pend-fits, needs))
     (λ c. search needs)
