@@ -1,9 +1,10 @@
 # The commands that README.md names.
-.PHONY: help test run vectors compare fuzz bench way format documents
+.PHONY: help test lib run vectors compare fuzz bench way format documents
 
 # The default: prints the commands with the time that they take.
 help:
 	@echo 'make test                       all that must hold: documents, proofs, wrong answers, comparisons   36 min'
+	@echo 'make lib PREFIX=folder          the static library, its header and a pkg-config file          7 min, 5 s'
 	@echo 'make run                        the console on the story of scripts/story.txt                 7 min, 5 s'
 	@echo 'make vectors                    the worked examples of the papers, value by value             4 min, 5 s'
 	@echo 'make compare N=calls SEED=seed  the engine beside the second implementation                 7 min, 1 min'
@@ -18,6 +19,11 @@ help:
 # comparison tests.
 test:
 	@bash tools/test.sh
+
+# Proves the engine and puts the static library, its header and a pkg-config file into a folder, target/diminurel unless
+# told otherwise: make lib PREFIX=folder.
+lib:
+	@bash tools/lib.sh "$(PREFIX)"
 
 # Proves and runs the console on the customer's story, scripts/story.txt.
 run:

@@ -1,9 +1,11 @@
-/* The key-management core of a prepayment vending module: STS 600-8-6 edition 1.6.
+/* Diminurel: the key-management core of a prepayment vending module, STS 600-8-6 edition 1.6.
  *
- * Two functions over rows that the caller lends. No heap, no globals; both are reentrant. They answer every input:
- * rows, supplement, request and buffer may hold any bytes, and slices may have any length, 0 included.
+ * Target: x86-64 Linux (System V ABI, baseline instructions). C99 or later, C++11 or later.
+ * Stack:  about 46 KiB a call. Code: about 41 KiB, and 1.4 KiB of constants. docs/PERFORMANCE.md has the figures.
+ * Linked: memcpy and memset, nothing else. No heap, no globals, no input or output; both functions are reentrant.
  *
- * What the host owes:
+ * They answer every input: rows, supplement, request and buffer may hold any bytes, and slices may have any length, 0
+ * included. What the host owes:
  * - each pointer is valid for its length (of rows or bytes), is not null, and no two of them overlap;
  * - the rows are kept whole, all or nothing, over a power cut: the host stores them only after the call has returned;
  * - after power-up the host hands in GL?RS before anything else, since a session must not outlive the power;
@@ -19,44 +21,101 @@
 #include <stddef.h>
 #include <stdint.h>
 
+#ifdef __cplusplus
+extern "C" {
+#endif
+
 /* The version of this header and of the library that goes with it (CHANGELOG.md). */
 #define DIMINUREL_VERSION_MAJOR 0
 #define DIMINUREL_VERSION_MINOR 1
 #define DIMINUREL_VERSION_PATCH 0
 #define DIMINUREL_VERSION "0.1.0"
 
-/* A slot row. All zero is free; else the state is 1 PENDING, 2 LOADING or 3 IDLE. The KMCID has zeros after it. */
-typedef struct {
-    uint8_t state;
-    uint8_t kmcid[40];
-    uint8_t fingerprint[16];
-    uint8_t tvp[16];
-} diminurel_slot; /* 73 bytes */
+/* Rows of each kind: 1 to these, else refusal 1. */
+#define DIMINUREL_SLOTS_MAX 8
+#define DIMINUREL_REGISTERS_MAX 32
 
-/* A register row: a stored card with zeros after it. All zero is free. */
-typedef struct {
-    uint8_t card[256];
-} diminurel_register; /* 256 bytes */
+/* Bytes of a request, its carriage return included (else refusal 5), and of the response buffer (else refusal 2). */
+#define DIMINUREL_REQUEST_MIN 10
+#define DIMINUREL_REQUEST_MAX 1024
+#define DIMINUREL_RESPONSE_MIN 1024
 
-/* What is handed in beside a request. */
+/* Bytes of the parts of rows and supplement. */
+#define DIMINUREL_KMCID_MAX 40
+#define DIMINUREL_FINGERPRINT_LENGTH 16
+#define DIMINUREL_TIMESTAMP_LENGTH 16
+#define DIMINUREL_CARD_MAX 256
+#define DIMINUREL_IDENTITY_MAX 128
+#define DIMINUREL_LOAD_REQUEST_MAX 700
+#define DIMINUREL_TAG_LENGTH 48
+#define DIMINUREL_CHECK_LENGTH 6
+
+/* The state of a slot; in a reply also none, since only an accepted session command has one. SM?KQ prints IDLE as
+ * ACTIVE. */
+enum diminurel_state {
+    DIMINUREL_STATE_FREE = 0,
+    DIMINUREL_STATE_PENDING = 1,
+    DIMINUREL_STATE_LOADING = 2,
+    DIMINUREL_STATE_IDLE = 3,
+    DIMINUREL_STATE_NONE = 255
+};
+
+/* How a request ended. docs/REFUSALS.md says who gets each refusal, with which response, and what to do about it. */
+enum diminurel_outcome {
+    DIMINUREL_ACCEPTED = 0,
+    DIMINUREL_REFUSED_ROW_COUNTS = 1,         /* no row of a kind, or too many */
+    DIMINUREL_REFUSED_SHORT_BUFFER = 2,       /* a response buffer of less than 1,024 bytes */
+    DIMINUREL_REFUSED_UNSOUND_ROWS = 3,       /* rows that the engine would not have left so */
+    DIMINUREL_REFUSED_BAD_SUPPLEMENT = 4,     /* a supplement out of form */
+    DIMINUREL_REFUSED_BAD_FRAME = 5,          /* a wrong length, or carriage return not just at the end */
+    DIMINUREL_REFUSED_BAD_CHECKSUM = 6,
+    DIMINUREL_REFUSED_UNKNOWN_HEADER = 7,     /* none of the ten commands */
+    DIMINUREL_REFUSED_BAD_FIELDS = 8,         /* other fields than the command has */
+    DIMINUREL_REFUSED_BAD_RECORD = 9,         /* a record of another type or number of fields, or its CRC is wrong */
+    DIMINUREL_REFUSED_BAD_FORM = 10,          /* fields of the record, or its card, out of form */
+    DIMINUREL_REFUSED_EXPIRED = 11,           /* the centre's public key has expired */
+    DIMINUREL_REFUSED_UNKNOWN_SLOT = 12,
+    DIMINUREL_REFUSED_NO_FREE_SLOT = 13,
+    DIMINUREL_REFUSED_WRONG_STATE = 14,       /* the slot's state does not allow the command */
+    DIMINUREL_REFUSED_OTHER_MODULE = 15,      /* a load response for another module */
+    DIMINUREL_REFUSED_OTHER_FINGERPRINT = 16, /* made with another public key of the centre */
+    DIMINUREL_REFUSED_OTHER_TVP = 17,         /* to another load request */
+    DIMINUREL_REFUSED_OTHER_TAG = 18,         /* with another tag than expected */
+    DIMINUREL_REFUSED_CHECK_FAILED = 19,      /* the cryptographic check has not passed */
+    DIMINUREL_REFUSED_NO_FREE_REGISTER = 20,
+    DIMINUREL_REFUSED_EMPTY_REGISTER = 21
+};
+
+/* A slot row. All zero is free. */
 typedef struct {
-    uint8_t clock[16];      /* YYYYMMDDThhmmssZ */
-    uint8_t identity[128];  /* the module's own SMID.1 record */
+    uint8_t state; /* of enum diminurel_state */
+    uint8_t kmcid[DIMINUREL_KMCID_MAX]; /* zeros after it */
+    uint8_t fingerprint[DIMINUREL_FINGERPRINT_LENGTH];
+    uint8_t tvp[DIMINUREL_TIMESTAMP_LENGTH]; /* zeros unless PENDING */
+} diminurel_slot;
+
+/* A register row. All zero is free. */
+typedef struct {
+    uint8_t card[DIMINUREL_CARD_MAX]; /* a stored card, zeros after it */
+} diminurel_register;
+
+/* What is handed in beside a request. Bytes past a length may hold anything. */
+typedef struct {
+    uint8_t clock[DIMINUREL_TIMESTAMP_LENGTH]; /* YYYYMMDDThhmmssZ */
+    uint8_t identity[DIMINUREL_IDENTITY_MAX]; /* the module's own SMID.1 record */
     size_t identity_length;
-    uint8_t request[700];   /* a finished VKLOADREQ record */
-    size_t request_length;  /* 1 to 700 */
-    uint8_t tag[48];        /* the expected tag, hexadecimal */
-    uint8_t check[6];       /* the check value, hexadecimal */
-    uint8_t passed;         /* the cryptographic check passed: 1 yes, 0 no */
-} diminurel_supplement; /* 920 bytes where size_t has 8 */
+    uint8_t request[DIMINUREL_LOAD_REQUEST_MAX]; /* a finished VKLOADREQ record */
+    size_t request_length; /* 1 to 700 */
+    uint8_t tag[DIMINUREL_TAG_LENGTH]; /* the expected tag, hexadecimal capitals */
+    uint8_t check[DIMINUREL_CHECK_LENGTH]; /* the check value, hexadecimal capitals */
+    uint8_t passed; /* the cryptographic check passed: 1 yes, 0 no */
+} diminurel_supplement;
 
-/* How a request ended: 0 accepted, else the refusal's number (1 to 21); the slot state that an accepted session command
- * leaves (0 free, 1 PENDING, 2 LOADING, 3 IDLE), 255 where there is none; and the length of the response, 0 where
- * nothing was written. */
+/* How a request ended. */
 typedef struct {
-    uint8_t outcome;
-    uint8_t state;
-    size_t length;
+    uint8_t outcome; /* of enum diminurel_outcome */
+    uint8_t state; /* of enum diminurel_state: what an accepted session command leaves its slot in, else none */
+    size_t length; /* of the response; 0 where nothing was written */
 } diminurel_reply;
 
 /* Handles a request: 1 to 8 slots, 1 to 32 registers (else refusal 1), a response buffer of at least 1,024 bytes (else
@@ -69,5 +128,54 @@ diminurel_reply diminurel_handle(diminurel_slot *slots, size_t slot_count, dimin
  * that is 0, beyond the rows or free, for unsound rows and for counts out of range. */
 uint8_t diminurel_usable(const diminurel_slot *slots, size_t slot_count, const diminurel_register *registers,
                          size_t register_count, size_t reg);
+
+#ifdef __cplusplus
+}
+#endif
+
+/* The layout that the library is compiled for, where the language can assert it: from C11 and C++11 on. */
+#if defined(__cplusplus)
+#define DIMINUREL_HOLDS(fact) static_assert(fact, #fact)
+#define DIMINUREL_SIZE(type, field) sizeof(type::field)
+#elif defined(__STDC_VERSION__) && __STDC_VERSION__ >= 201112L
+#define DIMINUREL_HOLDS(fact) _Static_assert(fact, #fact)
+#define DIMINUREL_SIZE(type, field) sizeof(((type *)0)->field)
+#endif
+
+#ifdef DIMINUREL_HOLDS
+#define DIMINUREL_FIELD(type, field, offset, size)      \
+    DIMINUREL_HOLDS(offsetof(type, field) == (offset)); \
+    DIMINUREL_HOLDS(DIMINUREL_SIZE(type, field) == (size))
+
+DIMINUREL_HOLDS(sizeof(size_t) == 8);
+
+DIMINUREL_HOLDS(sizeof(diminurel_slot) == 73);
+DIMINUREL_FIELD(diminurel_slot, state, 0, 1);
+DIMINUREL_FIELD(diminurel_slot, kmcid, 1, 40);
+DIMINUREL_FIELD(diminurel_slot, fingerprint, 41, 16);
+DIMINUREL_FIELD(diminurel_slot, tvp, 57, 16);
+
+DIMINUREL_HOLDS(sizeof(diminurel_register) == 256);
+DIMINUREL_FIELD(diminurel_register, card, 0, 256);
+
+DIMINUREL_HOLDS(sizeof(diminurel_supplement) == 920);
+DIMINUREL_FIELD(diminurel_supplement, clock, 0, 16);
+DIMINUREL_FIELD(diminurel_supplement, identity, 16, 128);
+DIMINUREL_FIELD(diminurel_supplement, identity_length, 144, 8);
+DIMINUREL_FIELD(diminurel_supplement, request, 152, 700);
+DIMINUREL_FIELD(diminurel_supplement, request_length, 856, 8);
+DIMINUREL_FIELD(diminurel_supplement, tag, 864, 48);
+DIMINUREL_FIELD(diminurel_supplement, check, 912, 6);
+DIMINUREL_FIELD(diminurel_supplement, passed, 918, 1);
+
+DIMINUREL_HOLDS(sizeof(diminurel_reply) == 16);
+DIMINUREL_FIELD(diminurel_reply, outcome, 0, 1);
+DIMINUREL_FIELD(diminurel_reply, state, 1, 1);
+DIMINUREL_FIELD(diminurel_reply, length, 8, 8);
+
+#undef DIMINUREL_FIELD
+#undef DIMINUREL_SIZE
+#undef DIMINUREL_HOLDS
+#endif
 
 #endif
