@@ -1,8 +1,8 @@
 #!/usr/bin/env bash
 # Holds what a caller is handed to the engine: the header compiles without a warning in C and C++, and its static
 # assertions find another layout; its refusals, and those of docs/REFUSALS.md, are those of crates/response_numbers;
-# callers in C and C++ are built from the folder of `make lib`, whose version is the header's. Wrong copies of header and
-# page are tried first.
+# callers in C and C++ are built from the folder of `make lib`, whose version is the header's. Wrong copies of header
+# and page are tried first.
 set -eu -o pipefail
 cd "$(dirname "$0")/../.."
 work=$(mktemp -d)
