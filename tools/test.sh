@@ -1,9 +1,10 @@
 #!/usr/bin/env bash
 # The test command. Steps in order: the kit is the one that is pinned and the documents name what is there (tools/kit,
-# tools/documents.sh); `rt ci`; each comparison test of tools/compare. rt's own line `N passed, 0 failed` is the last
-# line printed, and only where every step passed.
+# tools/documents.sh); `rt ci`; the comparison tests of tools/compare, which are named here. rt's own line `N passed, 0
+# failed` is the last line printed, and only where every step passed.
 set -u -o pipefail
 top=$(cd "$(dirname "$0")/.." && pwd)
+comparisons=(callers.sh console.sh engine.sh)
 
 # Runs the steps with the commands given: $1 looks at kit and documents, $2 proves, $3 compares. The last line of $2 is
 # kept for the end.
@@ -36,7 +37,15 @@ same_kit() { [ "$1" = "$(cat "$2")" ] || { echo "test: the kit is '$1', and $2 p
 
 look() { same_kit "$(rt version)" "$top/tools/kit" && bash "$top/tools/documents.sh"; }
 prove() { (cd "$top" && rt ci); }
-compare() { local t; for t in "$top"/tools/compare/*.sh; do [ ! -f "$t" ] || bash "$t" || return 1; done; }
+compare() { compare_in "$top/tools/compare"; }
+
+# Runs the comparison tests of the folder $1: just those that are named above, neither fewer nor more.
+compare_in() {
+    local each there
+    there=$(cd "$1" && LC_ALL=C && echo *.sh)
+    [ "$there" = "${comparisons[*]}" ] || { echo "test: $1 has $there, and not ${comparisons[*]}"; return 1; }
+    for each in "${comparisons[@]}"; do bash "$1/$each" || return 1; done
+}
 
 # The runner is tried with failing steps first: each must fail, and none may end in a line that reads as a pass.
 good() { echo '1 passed, 0 failed'; }
@@ -56,6 +65,25 @@ refuses true bad_status true
 refuses true bad_line true
 refuses true silent true
 refuses true good false
+
+# Comparison tests in a folder for trial: all there and passing; one missing; one failing; one too many; none at all.
+trial=$(mktemp -d)
+trap 'rm -rf "$trial"' EXIT
+try() { compare_in "$trial"; }
+fill() { local name; for name in "${comparisons[@]}"; do echo true > "$trial/$name"; done; }
+fill
+steps true good try >/dev/null || { echo "test: the runner refuses passing comparisons"; exit 1; }
+for each in "${comparisons[@]}"; do
+    rm "$trial/$each"
+    refuses true good try
+    echo false > "$trial/$each"
+    refuses true good try
+    fill
+done
+echo true > "$trial/other.sh"
+refuses true good try
+rm "$trial"/*
+refuses true good try
 steps true good true >/dev/null || { echo "test: the runner refuses a pass"; exit 1; }
 if same_kit "another $(cat "$top/tools/kit")" "$top/tools/kit" >/dev/null; then
     echo "test: another kit is taken for the one that is pinned"

@@ -1,7 +1,12 @@
 //! A safe wrapper of the two entry points of `include/diminurel.h`: safe for rows, supplements, requests and buffers of
-//! any content and any length.
+//! any content and any length. [`Rows::handle`] and [`Rows::usable`] answer in types; [`handle`] and [`usable`] in the
+//! header's numbers. `tests/session.rs` goes from power-up to a key that may vend.
 
 #![no_std]
+
+mod answers;
+
+pub use answers::{Accepted, Refusal, Refused, Rows, SlotState};
 
 /// The version of the library, as `include/diminurel.h` has it.
 pub const VERSION: &str = env!("CARGO_PKG_VERSION");
@@ -37,8 +42,8 @@ pub struct Supplement {
     pub passed: u8,
 }
 
-/// The outcome (0, or the refusal's number), the slot state that is left (255 where there is none), and the length of the
-/// response.
+/// The outcome (0, or the refusal's number), the slot state that is left (255 where there is none), and the length of
+/// the response, as the header has them.
 #[repr(C)]
 #[derive(Clone, Copy, PartialEq, Eq, Debug)]
 pub struct Reply {
@@ -70,7 +75,7 @@ extern "C" {
     ) -> u8;
 }
 
-/// Handles a request.
+/// Handles a request, and answers in the header's numbers.
 pub fn handle(
     slots: &mut [Slot],
     registers: &mut [Register],
@@ -97,10 +102,6 @@ pub fn handle(
 
 /// Whether the key in a register, counted from 1, may vend.
 pub fn usable(slots: &[Slot], registers: &[Register], register: usize) -> bool {
-    // As above.
-    match unsafe { diminurel_usable(slots.as_ptr(), slots.len(), registers.as_ptr(), registers.len(), register) } {
-        0 => false,
-        1 => true,
-        other => panic!("usable {register} is {other}, neither yes nor no"),
-    }
+    // As above. The library answers 0 or 1; whatever else another one might answer lets no key vend.
+    unsafe { diminurel_usable(slots.as_ptr(), slots.len(), registers.as_ptr(), registers.len(), register) == 1 }
 }

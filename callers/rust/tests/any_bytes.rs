@@ -1,7 +1,7 @@
-//! Arbitrary bytes everywhere: an outcome from 0 to 21, no byte beyond the response changed, and no row changed by a
-//! refusal.
+//! Arbitrary bytes everywhere: a request is accepted exactly where it is due, no byte beyond the response is changed,
+//! and no row by a refusal.
 
-use diminurel::{handle, usable, Register, Slot, Supplement};
+use diminurel::{Refusal, Register, Rows, Slot, Supplement};
 
 struct Random(u64);
 
@@ -22,62 +22,112 @@ impl Random {
     fn list(&mut self, length: usize) -> Vec<u8> {
         (0..length).map(|_| self.byte()).collect()
     }
+
+    fn slot(&mut self) -> Slot {
+        Slot { state: self.byte(), kmcid: self.bytes(), fingerprint: self.bytes(), tvp: self.bytes() }
+    }
+
+    fn register(&mut self) -> Register {
+        Register { card: self.bytes() }
+    }
+
+    fn supplement(&mut self) -> Supplement {
+        Supplement {
+            clock: self.bytes(),
+            identity: self.bytes(),
+            identity_length: self.below(300),
+            request: self.bytes(),
+            request_length: self.below(1_000),
+            tag: self.bytes(),
+            check: self.bytes(),
+            passed: self.byte(),
+        }
+    }
+}
+
+const FREE_SLOT: Slot = Slot { state: 0, kmcid: [0; 40], fingerprint: [0; 16], tvp: [0; 16] };
+const FREE_REGISTER: Register = Register { card: [0; 256] };
+
+fn good_supplement() -> Supplement {
+    let own = b"SMID.1:Prism:12345678:20130303T153830Z:E7C42215AF1FE951:9C7D";
+    let mut identity = [0; 128];
+    identity[..own.len()].copy_from_slice(own);
+    Supplement {
+        clock: *b"20260101T000000Z",
+        identity,
+        identity_length: own.len(),
+        request: [b'V'; 700],
+        request_length: 1,
+        tag: [b'0'; 48],
+        check: [b'0'; 6],
+        passed: 1,
+    }
+}
+
+/// Requests that free rows accept.
+const GOOD: [&[u8]; 3] = [
+    b"GL?RSCEEF\r",
+    b"SM?GL6991\r",
+    b"SM?KCPPK.ECDH.1|KMCID.1:SW1:A:20200101T000000Z:AAAAAAAAAAAAAAAA:9BE0|04|20300101T000000Z|||BE23~9E67\r",
+];
+
+struct Call {
+    slots: Vec<Slot>,
+    registers: Vec<Register>,
+    supplement: Supplement,
+    request: Vec<u8>,
+    buffer: Vec<u8>,
+    /// It must be accepted.
+    due: bool,
+}
+
+/// The supplement is good in every second turn, the request and its buffer in every fourth, the rows are free in two
+/// turns of three.
+fn call(random: &mut Random, turn: usize) -> Call {
+    let (framed, is_free) = (turn % 4 == 0, turn % 3 != 0);
+    let (slots, registers) = (random.below(11), random.below(36));
+    let (length, room) = (random.below(1_100), random.below(1_100));
+    Call {
+        slots: (0..slots).map(|_| if is_free { FREE_SLOT } else { random.slot() }).collect(),
+        registers: (0..registers).map(|_| if is_free { FREE_REGISTER } else { random.register() }).collect(),
+        supplement: if turn % 2 == 0 { good_supplement() } else { random.supplement() },
+        request: if framed { GOOD[random.below(3)].to_vec() } else { random.list(length) },
+        buffer: random.list(if framed { 1_024 + room } else { room }),
+        due: framed && is_free && (1..=8).contains(&slots) && (1..=32).contains(&registers),
+    }
 }
 
 #[test]
 fn any_bytes() {
     let mut random = Random(1);
+    let mut accepted = 0;
     for turn in 0..5_000 {
-        let (slot_count, register_count) = (random.below(11), random.below(36));
-        let zero = turn % 3 != 0;
-        let mut slots: Vec<Slot> = (0..slot_count)
-            .map(|_| Slot {
-                state: random.byte(),
-                kmcid: random.bytes(),
-                fingerprint: random.bytes(),
-                tvp: random.bytes(),
-            })
-            .map(|row| if zero { Slot { state: 0, kmcid: [0; 40], fingerprint: [0; 16], tvp: [0; 16] } } else { row })
-            .collect();
-        let mut registers: Vec<Register> =
-            (0..register_count).map(|_| Register { card: if zero { [0; 256] } else { random.bytes() } }).collect();
-        let supplement = Supplement {
-            clock: random.bytes(),
-            identity: random.bytes(),
-            identity_length: random.below(300),
-            request: random.bytes(),
-            request_length: random.below(1_000),
-            tag: random.bytes(),
-            check: random.bytes(),
-            passed: random.byte(),
+        let Call { mut slots, mut registers, supplement, request, mut buffer, due } = call(&mut random, turn);
+        let before = (slots.clone(), registers.clone(), buffer.clone());
+        let mut rows = Rows { slots: &mut slots, registers: &mut registers };
+        let answer = rows.handle(&supplement, &request, &mut buffer);
+        rows.usable(random.below(40));
+        assert_eq!(answer.is_ok(), due, "turn {turn}: {answer:?}");
+        let response = match answer {
+            Ok(accepted) => accepted.response,
+            Err(refused) => {
+                assert_ne!(refused.refusal, Refusal::Misfit);
+                refused.response
+            }
         };
-        let (request_length, room) = (random.below(1_100), random.below(1_100));
-        let request = random.list(request_length);
-        let mut response = random.list(room);
-        let before = (slots.clone(), registers.clone(), response.clone());
-        let reply = handle(&mut slots, &mut registers, &supplement, &request, &mut response);
-        assert!(reply.outcome <= 21 && reply.length <= room);
-        assert_eq!(response[reply.length..], before.2[reply.length..]);
-        if reply.outcome != 0 {
-            assert!(slots == before.0 && registers == before.1);
-        }
-        usable(&slots, &registers, random.below(40));
+        assert!(response.is_empty() || response.ends_with(b"\r"));
+        let length = response.len();
+        assert_eq!(buffer[length..], before.2[length..]);
+        assert!(due || (slots == before.0 && registers == before.1));
+        accepted += usize::from(due);
     }
+    assert!(accepted > 500, "{accepted} were accepted");
 }
 
 #[test]
 fn nothing_lent() {
-    let supplement = Supplement {
-        clock: [0; 16],
-        identity: [0; 128],
-        identity_length: 0,
-        request: [0; 700],
-        request_length: 0,
-        tag: [0; 48],
-        check: [0; 6],
-        passed: 0,
-    };
-    let reply = handle(&mut [], &mut [], &supplement, &[], &mut []);
-    assert_eq!((reply.outcome, reply.state, reply.length), (1, 255, 0));
-    assert!(!usable(&[], &[], 1));
+    let mut rows = Rows { slots: &mut [], registers: &mut [] };
+    let refused = rows.handle(&good_supplement(), &[], &mut []).expect_err("no rows are no module");
+    assert_eq!((refused.refusal, refused.response.len()), (Refusal::RowCounts, 0));
+    assert!(!rows.usable(1));
 }
