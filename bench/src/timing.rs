@@ -73,7 +73,7 @@ impl Engine for Proved {
     }
 
     fn usable(slots: &[Slot], registers: &[Register], register: usize) -> bool {
-        diminurel::usable(slots, registers, register)
+        diminurel::usable(slots, registers, register) == 1
     }
 }
 

@@ -100,8 +100,8 @@ pub fn handle(
     }
 }
 
-/// Whether the key in a register, counted from 1, may vend.
-pub fn usable(slots: &[Slot], registers: &[Register], register: usize) -> bool {
-    // As above. The library answers 0 or 1; whatever else another one might answer lets no key vend.
-    unsafe { diminurel_usable(slots.as_ptr(), slots.len(), registers.as_ptr(), registers.len(), register) == 1 }
+/// Whether the key in a register, counted from 1, may vend: 1 for yes, 0 for no.
+pub fn usable(slots: &[Slot], registers: &[Register], register: usize) -> u8 {
+    // As above.
+    unsafe { diminurel_usable(slots.as_ptr(), slots.len(), registers.as_ptr(), registers.len(), register) }
 }

@@ -67,7 +67,11 @@ impl Engine for Linked {
         register_count: usize,
         register: usize,
     ) -> bool {
-        diminurel::usable(&lent_slots(slots, slot_count), &lent_registers(registers, register_count), register)
+        match diminurel::usable(&lent_slots(slots, slot_count), &lent_registers(registers, register_count), register) {
+            0 => false,
+            1 => true,
+            n => panic!("usable answers {n}"),
+        }
     }
 }
 
