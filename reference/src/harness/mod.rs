@@ -1,10 +1,14 @@
 //! Compares an engine under test with `handle` and `usable`, call by call: outcome,
 //! state, length, every row and every byte of the response buffer.
 
+pub mod card_values;
+pub mod dates;
 pub mod edits;
 pub mod generator;
 pub mod history;
+pub mod identities;
 pub mod parts;
+pub mod places;
 pub mod random_script;
 pub mod requests;
 pub mod scenes;
@@ -127,7 +131,7 @@ impl fmt::Display for Counts {
     fn fmt(&self, out: &mut fmt::Formatter) -> fmt::Result {
         writeln!(out, "seed {}, {} calls, no difference", self.seed, self.calls())?;
         for (name, calls) in &self.parts {
-            writeln!(out, "  {name:<12} {calls:>9}")?;
+            writeln!(out, "  {name:<14} {calls:>9}")?;
         }
         if self.edits.1 > 0 {
             writeln!(out, "  single-byte edits: {} of {}", self.edits.0, self.edits.1)?;
@@ -482,7 +486,17 @@ fn fixed_parts(bench: &mut Bench) -> Result<(), String> {
     bench.part("rows");
     parts::rows(bench)?;
     bench.part("supplements");
-    parts::supplements(bench)
+    parts::supplements(bench)?;
+    bench.part("dates");
+    dates::dates(bench)?;
+    bench.part("identities");
+    identities::identities(bench)?;
+    bench.part("card values");
+    card_values::card_values(bench)?;
+    bench.part("places");
+    places::places(bench)?;
+    bench.part("unsound places");
+    places::unsound_places(bench)
 }
 
 fn all_edits(bench: &mut Bench, most: u64) -> Result<(), String> {
