@@ -1,5 +1,6 @@
 //! Compares the engine, through its wrapper in Rust, with `handle` and `usable`: `compare [calls [seed]]`, or
-//! `compare fuzz [calls [seed]]` with the random calls alone and a seed from the clock.
+//! `compare fixed` with the fixed parts alone, or `compare fuzz [calls [seed]]` with the random calls alone and a seed
+//! from the clock.
 
 use reference::harness::{self, Engine};
 use reference::{RegisterRow, SlotRow, Supplement};
@@ -77,12 +78,17 @@ impl Engine for Linked {
 
 fn main() {
     let mut arguments = std::env::args().skip(1).peekable();
+    let fixed = arguments.next_if(|word| word == "fixed").is_some();
     let fuzz = arguments.next_if(|word| word == "fuzz").is_some();
     let calls = arguments.next().map_or(200_000, |text| text.parse().expect("a number of calls"));
     let unsaid = || if fuzz { harness::clock_seed() } else { 1 };
     let seed = arguments.next().map_or_else(unsaid, |text| text.parse().expect("a seed"));
     let start = std::time::Instant::now();
-    let counts = if fuzz { harness::fuzz } else { harness::run }(&mut Linked, calls, seed);
+    let counts = match (fixed, fuzz) {
+        (true, _) => harness::fixed(&mut Linked),
+        (_, true) => harness::fuzz(&mut Linked, calls, seed),
+        _ => harness::run(&mut Linked, calls, seed),
+    };
     print!("{counts}");
     println!("{:.1} s", start.elapsed().as_secs_f64());
 }

@@ -32,7 +32,9 @@ type Timestamp = [u8; 16];
 type Setting = (Tables, Supplement, Vec<u8>);
 
 /// Where a timestamp stands: the outcome where it is one, the outcome where it is none, and the call.
-const PLACES: [(u8, u8, fn(&Timestamp) -> Setting); 14] = [
+type Place = (u8, u8, fn(&Timestamp) -> Setting);
+
+const PLACES: [Place; 14] = [
     (0, 4, clock),
     (0, 4, own_time),
     (0, 10, expiry),

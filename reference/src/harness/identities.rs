@@ -30,6 +30,9 @@ const TYPES: [&[u8]; 18] = [
 const CENTRE: [&[u8]; 4] = [b"ArbSWID", b"KMC2", b"20040101T120000Z", FINGERPRINT];
 const MODULE: [&[u8]; 4] = [b"Prism", b"12345678", b"20130303T153830Z", b"E7C42215AF1FE951"];
 
+/// A command with a record, the record's type and its fields.
+type Shape<'a> = (Command, &'a [u8], &'a [&'a [u8]]);
+
 /// Where an identity stands.
 #[derive(Clone, Copy, PartialEq)]
 enum Place {
@@ -127,7 +130,7 @@ fn in_place(bench: &mut Bench, place: Place, parses: bool, in_form: bool, identi
 /// The records of the three commands: of every type, field count and delimiter, and each in the place of the others.
 fn whole_records(bench: &mut Bench) -> Result<(), String> {
     let (centre, own) = (kmc(b"KMC2"), own_identity());
-    let of_command: [(Command, &[u8], &[&[u8]]); 3] = [
+    let of_command: [Shape; 3] = [
         (Command::KC, b"PK.ECDH.1", &[&centre, b"04", b"20130303T153840Z", b"", b""]),
         (Command::KR, b"VKLOAD.RESP.1", &[&centre, &own, CLOCK, TAG]),
         (Command::KL, b"KEY.1", &[b"00", CARD, b"00"]),

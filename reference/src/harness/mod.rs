@@ -2,11 +2,13 @@
 //! state, length, every row and every byte of the response buffer.
 
 pub mod card_values;
+pub mod counts;
 pub mod dates;
 pub mod edits;
 pub mod generator;
 pub mod history;
 pub mod identities;
+pub mod kinds;
 pub mod parts;
 pub mod places;
 pub mod random_script;
@@ -18,9 +20,9 @@ pub mod world;
 
 use crate::demand3::{self, Word};
 use crate::{handle, rows, usable, Command, RegisterRow, SlotRow, Supplement};
+pub use counts::Counts;
 use generator::Generator;
 use script::{Call, Replay};
-use std::fmt;
 use std::time::{SystemTime, UNIX_EPOCH};
 use tables::Tables;
 
@@ -91,64 +93,6 @@ impl Engine for Reference {
     }
 }
 
-/// How often each outcome came up.
-#[derive(Clone, Debug)]
-pub struct Counts {
-    pub seed: u64,
-    /// By outcome: 0 accepted, 1 to 21 refused.
-    pub outcomes: [u64; 22],
-    /// Acceptances, in the sequence of `Command::ALL`.
-    pub accepted: [u64; 10],
-    /// Answers of `usable`: no, yes.
-    pub usable: [u64; 2],
-    /// Calls of each part of the run.
-    pub parts: Vec<(&'static str, u64)>,
-    /// Histories from empty tables on which demand 3 was checked after every call.
-    pub histories: u64,
-    /// Single-byte edits made, and how many there are.
-    pub edits: (u64, u64),
-}
-
-impl Counts {
-    pub fn calls(&self) -> u64 {
-        self.outcomes.iter().sum()
-    }
-
-    /// What never came up.
-    pub fn missing(&self) -> Vec<String> {
-        let refusals = (1..=21).filter(|&number| self.outcomes[number] == 0).map(|number| format!("refusal {number}"));
-        let commands = Command::ALL
-            .iter()
-            .enumerate()
-            .filter(|(place, _)| self.accepted[*place] == 0)
-            .map(|(_, command)| format!("acceptance of {}", String::from_utf8_lossy(command.header())));
-        let usable = (0..2).filter(|&yes| self.usable[yes] == 0).map(|yes| format!("usable {}", ["no", "yes"][yes]));
-        refusals.chain(commands).chain(usable).collect()
-    }
-}
-
-impl fmt::Display for Counts {
-    fn fmt(&self, out: &mut fmt::Formatter) -> fmt::Result {
-        writeln!(out, "seed {}, {} calls, no difference", self.seed, self.calls())?;
-        for (name, calls) in &self.parts {
-            writeln!(out, "  {name:<14} {calls:>9}")?;
-        }
-        if self.edits.1 > 0 {
-            writeln!(out, "  single-byte edits: {} of {}", self.edits.0, self.edits.1)?;
-        }
-        writeln!(out, "  histories that demand 3 was checked on: {}", self.histories)?;
-        writeln!(out, "accepted {}", self.outcomes[0])?;
-        for (command, accepted) in Command::ALL.iter().zip(self.accepted) {
-            writeln!(out, "  {} {accepted:>9}", String::from_utf8_lossy(command.header()))?;
-        }
-        writeln!(out, "refused")?;
-        for (number, refused) in self.outcomes.iter().enumerate().skip(1) {
-            writeln!(out, "  {number:>5} {refused:>9}")?;
-        }
-        writeln!(out, "usable\n    yes {:>9}\n     no {:>9}", self.usable[1], self.usable[0])
-    }
-}
-
 /// What a run found, and a console script that replays it: empty where no call is to blame.
 #[derive(Debug)]
 pub struct Failure {
@@ -182,15 +126,7 @@ impl<'a> Bench<'a> {
             expected: [0; LONGEST_BUFFER + GUARD],
             got: [0; LONGEST_BUFFER + GUARD],
             length: 0,
-            counts: Counts {
-                seed,
-                outcomes: [0; 22],
-                accepted: [0; 10],
-                usable: [0; 2],
-                parts: Vec::new(),
-                histories: 0,
-                edits: (0, 0),
-            },
+            counts: Counts::new(seed),
             replay: Replay { start: Tables::empty(0, 0), calls: Vec::new(), asked: None },
             in_history: false,
         }
@@ -294,7 +230,7 @@ impl<'a> Bench<'a> {
         let (expected, beyond) = self.expected.split_at(answer.length);
         let (got, got_beyond) = self.got.split_at(answer.length);
         let list = answer.outcome == 0 && request.starts_with(Command::GL.header());
-        let same = if list { sorted(expected) == sorted(got) } else { expected == got };
+        let same = if list { sorted(got).is_some() && sorted(expected) == sorted(got) } else { expected == got };
         if !same || beyond != got_beyond {
             wrong.push("response buffer".to_string());
         }
@@ -320,14 +256,7 @@ impl<'a> Bench<'a> {
                 describe(&before, supplement, request, buffer, &filling)
             ));
         }
-        self.counts.outcomes[usize::from(answer.outcome)] += 1;
-        if let Some((_, calls)) = self.counts.parts.last_mut() {
-            *calls += 1;
-        }
-        if answer.outcome == 0 {
-            let place = Command::ALL.iter().position(|command| request.starts_with(command.header()));
-            self.counts.accepted[place.expect("accepted requests have a header")] += 1;
-        }
+        self.counts.count(&before, supplement, request, buffer, answer.outcome);
         Ok(answer.outcome)
     }
 
@@ -459,12 +388,14 @@ pub fn try_run(engine: &mut dyn Engine, calls: u64, seed: u64) -> Result<Counts,
         .and_then(|()| all_edits(&mut bench, calls.saturating_mul(8)))
         .and_then(|()| random_parts(&mut bench, calls))
         .map_err(|text| bench.failure(text))?;
-    let missing = bench.counts.missing();
-    if missing.is_empty() {
-        Ok(bench.counts)
-    } else {
-        Err(Failure { text: format!("never came up: {}\n{}", missing.join(", "), bench.counts), script: Vec::new() })
-    }
+    bench.counts.complete()
+}
+
+/// The fixed parts alone, in which all that has to come up does without a random call.
+pub fn try_fixed(engine: &mut dyn Engine) -> Result<Counts, Failure> {
+    let mut bench = Bench::new(engine, 1);
+    fixed_parts(&mut bench).map_err(|text| bench.failure(text))?;
+    bench.counts.complete()
 }
 
 /// The random calls alone, for longer runs.
@@ -477,6 +408,7 @@ pub fn try_fuzz(engine: &mut dyn Engine, calls: u64, seed: u64) -> Result<Counts
 fn fixed_parts(bench: &mut Bench) -> Result<(), String> {
     bench.part("named cases");
     parts::named_cases(bench)?;
+    parts::first_questions(bench)?;
     bench.part("reading");
     parts::reading(bench)?;
     bench.part("row counts");
@@ -516,6 +448,11 @@ fn random_parts(bench: &mut Bench, calls: u64) -> Result<(), String> {
 pub fn run(engine: &mut dyn Engine, calls: u64, seed: u64) -> Counts {
     println!("seed {seed}");
     stop_on_failure(try_run(engine, calls, seed), seed)
+}
+
+/// As `run`, with `try_fixed`.
+pub fn fixed(engine: &mut dyn Engine) -> Counts {
+    stop_on_failure(try_fixed(engine), 1)
 }
 
 /// As `run`, with `try_fuzz`.

@@ -256,6 +256,29 @@ pub fn named_cases(bench: &mut Bench) -> Result<(), String> {
     Ok(())
 }
 
+/// Questions 1 to 6 and 8 refuse every command, each before the next.
+pub fn first_questions(bench: &mut Bench) -> Result<(), String> {
+    for scene in scenes::all() {
+        let (header, payload) = scene.request[..scene.request.len() - 5].split_at(5);
+        let over = requests::frame(header, &[payload, b"N1~"].concat());
+        let wrong = [&over[..over.len() - 5], b"....\r"].concat();
+        let torn = &wrong[..wrong.len() - 1];
+        bench.expect(8, &mut scene.tables.clone(), &scene.supplement, &over, 1024)?;
+        bench.expect(6, &mut scene.tables.clone(), &scene.supplement, &wrong, 1024)?;
+        bench.expect(5, &mut scene.tables.clone(), &scene.supplement, torn, 1024)?;
+        let mut bad = scene.supplement;
+        bad.passed = 2;
+        bench.expect(4, &mut scene.tables.clone(), &bad, torn, 1024)?;
+        let mut unsound = scene.tables.clone();
+        unsound.slots[3].tvp[0] = 1;
+        bench.expect(3, &mut unsound, &bad, torn, 1024)?;
+        bench.expect(2, &mut unsound, &bad, torn, 1023)?;
+        unsound.register_count = 0;
+        bench.expect(1, &mut unsound, &bad, torn, 1023)?;
+    }
+    Ok(())
+}
+
 /// A name of 40 bytes.
 pub(super) fn long_name(place: usize) -> Vec<u8> {
     format!("{place}{}", "k".repeat(39)).into_bytes()
