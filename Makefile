@@ -1,5 +1,5 @@
 # The commands that README.md names.
-.PHONY: help test lib run vectors compare fuzz bench way format documents
+.PHONY: help test lib run vectors compare faults fuzz bench way format documents
 
 # The default: prints the commands with the time that they take.
 help:
@@ -8,6 +8,7 @@ help:
 	@echo 'make run                        the console on the story of scripts/story.txt                 7 min, 5 s'
 	@echo 'make vectors                    the worked examples of the papers, value by value             4 min, 5 s'
 	@echo 'make compare N=calls SEED=seed  the engine beside the second implementation                 7 min, 1 min'
+	@echo 'make faults                     faults planted in the second implementation, each reported    7 min, 5 min'
 	@echo 'make fuzz N=calls SEED=seed     random calls alone, a million unless told otherwise         7 min, 1 min'
 	@echo 'make bench                      time, stack and size beside an engine written for speed     7 min, 1 min'
 	@echo 'make way                        functions and copies on the way of a request                 7 min, 20 s'
@@ -43,6 +44,10 @@ documents:
 # Compares the engine with the second implementation in reference/: make compare N=calls SEED=seed.
 compare:
 	@bash tools/compare/engine.sh $(N) $(SEED)
+
+# Plants each fault of reference/faults.txt in the second implementation: the comparison must report it.
+faults:
+	@bash tools/compare/faults.sh all
 
 # Longer runs of random calls alone: make fuzz N=calls SEED=seed. Without a seed each run has another, and prints it.
 fuzz:

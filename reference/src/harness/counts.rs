@@ -166,7 +166,7 @@ impl fmt::Display for Counts {
     fn fmt(&self, out: &mut fmt::Formatter) -> fmt::Result {
         writeln!(out, "seed {}, {} calls, no difference", self.seed, self.calls())?;
         for (name, calls) in &self.parts {
-            writeln!(out, "  {name:<14} {calls:>9}")?;
+            writeln!(out, "  {name:<15} {calls:>9}")?;
         }
         if self.edits.1 > 0 {
             writeln!(out, "  single-byte edits: {} of {}", self.edits.0, self.edits.1)?;
