@@ -37,6 +37,11 @@ plant() {
     printf '%s' "${text%x}" > "$work/reference/src/$1"
 }
 
+# It is tried first with texts that stand nowhere and twice.
+for text in 'no such text' 'fn '; do
+    if (plant text.rs "$text" x > /dev/null); then echo "faults: '$text' is taken for a text that stands once"; exit 1; fi
+done
+
 # Plants a fault, compares, and takes it back.
 tried=0
 try() {

@@ -43,13 +43,13 @@ const PLACES: [Place; 14] = [
     // A module of another time is another module, and another TVP is not the slot's.
     (15, 10, |time| of_request(requests::respond(&kmc(b"KMC2"), &module(time), CLOCK, TAG))),
     (17, 10, |time| of_request(requests::respond(&kmc(b"KMC2"), &own_identity(), time, TAG))),
-    (0, 10, |time| of_request(load(&replaced(CARD, "ACT20130716T151031Z", "ACT", time)))),
-    (0, 10, |time| of_request(load(&replaced(CARD, "BDT20130716T151031Z", "BDT", time)))),
-    (0, 10, |time| of_request(load(&replaced(CARD, "KEN", "IUT", time)))),
+    (0, 10, |time| of_request(load(&with_time(CARD, "ACT20130716T151031Z", "ACT@", time)))),
+    (0, 10, |time| of_request(load(&with_time(CARD, "BDT20130716T151031Z", "BDT@", time)))),
+    (0, 10, |time| of_request(load(&with_time(CARD, "KEN", "IUT@;KEN", time)))),
     (0, 3, slot_tvp),
-    (0, 3, |time| of_card(replaced(STORED.as_bytes(), "ACT20040301T140000Z", "ACT", time))),
-    (0, 3, |time| of_card(replaced(STORED.as_bytes(), "BDT19930101T000000Z", "BDT", time))),
-    (0, 3, |time| of_card(replaced(STORED.as_bytes(), "IUT20150301T140000Z", "IUT", time))),
+    (0, 3, |time| of_card("ACT20040301T140000Z", "ACT@", time)),
+    (0, 3, |time| of_card("BDT19930101T000000Z", "BDT@", time)),
+    (0, 3, |time| of_card("IUT20150301T140000Z", "IUT@", time)),
 ];
 
 pub fn dates(bench: &mut Bench) -> Result<(), String> {
@@ -122,9 +122,9 @@ fn slot_tvp(time: &Timestamp) -> Setting {
     (tables, scenes::supplement(), requests::bare(Command::RS))
 }
 
-fn of_card(card: Vec<u8>) -> Setting {
+fn of_card(from: &str, to: &str, time: &Timestamp) -> Setting {
     let mut tables = scenes::tables();
-    tables.put_card(0, &card);
+    tables.put_card(0, &with_time(STORED.as_bytes(), from, to, time));
     (tables, scenes::supplement(), requests::bare(Command::RS))
 }
 
@@ -136,9 +136,8 @@ fn module(time: &Timestamp) -> Vec<u8> {
     requests::identity(b"SMID.1", b"Prism", b"12345678", time, b"E7C42215AF1FE951")
 }
 
-/// A card with a timestamp under a name in place of an entry; before KEN it stands as one more.
-fn replaced(card: &[u8], from: &str, name: &str, time: &Timestamp) -> Vec<u8> {
-    let end = if from == "KEN" { ";KEN" } else { "" };
-    let entry = format!("{name}{}{end}", String::from_utf8_lossy(time));
-    String::from_utf8_lossy(card).replace(from, &entry).into_bytes()
+/// A card in which a text gives way to another, with the timestamp for @.
+fn with_time(card: &[u8], from: &str, to: &str, time: &Timestamp) -> Vec<u8> {
+    let to = to.replace('@', &String::from_utf8_lossy(time));
+    String::from_utf8_lossy(card).replace(from, &to).into_bytes()
 }
