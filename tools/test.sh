@@ -4,7 +4,7 @@
 # failed` is the last line printed, and only where every step passed.
 set -u -o pipefail
 top=$(cd "$(dirname "$0")/.." && pwd)
-comparisons=(callers.sh console.sh engine.sh library.sh)
+comparisons=(callers.sh console.sh engine.sh faults.sh library.sh)
 
 # Runs the steps with the commands given: $1 looks at kit and documents, $2 proves, $3 compares. The last line of $2 is
 # kept for the end.
