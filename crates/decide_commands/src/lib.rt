@@ -34,7 +34,7 @@ pub fn decide_command(
 {
     match command {
         Command::RS => without_parts(decide_slots::decide_reset(payload)),
-        Command::KC => decide_sessions::decide_pend(slots, slot_count, supplement, payload),
+        Command::KC => decide_sessions::decide_start(slots, slot_count, supplement, payload),
         Command::KR => decide_sessions::decide_open(slots, slot_count, supplement, payload),
         Command::KL => decide_loads::decide_load(
             slots,
@@ -44,12 +44,20 @@ pub fn decide_command(
             supplement,
             payload,
         ),
-        Command::KF => without_parts(decide_slots::decide_finish(slots, slot_count, payload)),
-        Command::KX => without_parts(decide_slots::decide_delete(slots, slot_count, payload)),
-        Command::KD => without_parts(decide_registers::decide_clear(keys, register_count, payload)),
-        Command::GA => without_parts(decide_registers::decide_show(keys, register_count, payload)),
-        Command::GL => without_parts(decide_slots::decide_enumerate(payload)),
-        Command::KQ => without_parts(decide_slots::decide_query(slots, slot_count, payload)),
+        Command::KF => without_parts(decide_slots::decide_close(slots, slot_count, payload)),
+        Command::KX => without_parts(decide_slots::decide_delete_slot(slots, slot_count, payload)),
+        Command::KD => without_parts(decide_registers::decide_delete_key(
+            keys,
+            register_count,
+            payload,
+        )),
+        Command::GA => without_parts(decide_registers::decide_get_card(
+            keys,
+            register_count,
+            payload,
+        )),
+        Command::GL => without_parts(decide_slots::decide_list_slots(payload)),
+        Command::KQ => without_parts(decide_slots::decide_query_slot(slots, slot_count, payload)),
         Command::Unknown => decide_parts::refuse(Refusal::UnknownHeader),
     }
 }

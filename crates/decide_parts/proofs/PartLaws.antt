@@ -13,7 +13,7 @@ use Rattle.engine.specs.Requests.{firstText, secondText, kmcIdentityIn, cardIn}
 use Rattle.engine.specs.Decisions.{decided}
 use Rattle.engine.specs.declared.Refusal.{Refusal}
 use Rattle.engine.specs.declared.Decision.{Decision}
-use Rattle.engine.specs.declared.Decision.the-variants.{Refuse, Pend, Open, Load}
+use Rattle.engine.specs.declared.Decision.the-variants.{Refuse, Start, Open, Load}
 use Rattle.decide_payloads.specs.Payloads.{OnlyText, BothTexts}
 use Rattle.decide_parts.specs.Parts.{HasParts, IsDecided}
 use Rattle.decide_parts.specs.declared.Parts.{Parts}
@@ -55,9 +55,9 @@ module _ (s : List ℕ) (at : Bounds) (only : OnlyText s at) where
   stood f b w = subst (Stands s (inside at b)) (ap f (only .stands .1)) (stands-inside s at (only .stands .0) b (f r) w)
 
   module _ (a : Bounds) (w : Stands r a (nameIn (kmcIdentityIn r))) where
-    pub pended : (b : Bounds) → Stands r b (fingerprintIn (kmcIdentityIn r)) → (d : Decided) (k : ℕ) → d .decision ≡ Pend k → d .parts .slot ≡ inside at a → d .parts .fingerprint ≡ inside at b
-        → (e : Decision) → Pend k ≡ e → IsDecided d e s
-    pended b v d k p i j e q =
+    pub started : (b : Bounds) → Stands r b (fingerprintIn (kmcIdentityIn r)) → (d : Decided) (k : ℕ) → d .decision ≡ Start k → d .parts .slot ≡ inside at a → d .parts .fingerprint ≡ inside at b
+        → (e : Decision) → Start k ≡ e → IsDecided d e s
+    started b v d k p i j e q =
         record { decision-is = p ∙ q; parts-stand = rw (p, i, j) (stood (λ (u : List ℕ). nameIn (kmcIdentityIn u)) a w, stood (λ (u : List ℕ). fingerprintIn (kmcIdentityIn u)) b v) }
 
     pub opened : (g : Decision) (p : Parts) → Opens g → (b : Bounds) → b ≡ inside at a → p .slot ≡ b → (e : Decision) → g ≡ e → IsDecided (record { decision = g; parts = p }) e s

@@ -14,8 +14,8 @@ use Rattle.row_types.specs.declared.Supplement.{Supplement}
 use Rattle.engine.specs.Requests.{firstText, secondText, kmcIdentityIn, cardIn}
 use Rattle.engine.specs.Answers.{loadedCard}
 use Rattle.engine.specs.declared.Decision.{Decision}
-use Rattle.engine.specs.declared.Decision.the-variants.{Refuse, Reset, Pend, Open, Load, Finish}
-use Rattle.engine.specs.declared.Decision.the-variants.{Delete, Clear, Show, Enumerate, Query}
+use Rattle.engine.specs.declared.Decision.the-variants.{Refuse, Reset, Start, Open, Load, Close}
+use Rattle.engine.specs.declared.Decision.the-variants.{DeleteSlot, DeleteKey, GetCard, ListSlots, QuerySlot}
 use Rattle.decide_parts.specs.declared.Parts.{Parts}
 use Rattle.decide_parts.specs.declared.Decided.{Decided}
 
@@ -38,8 +38,8 @@ abbrev pub cardOf : Supplement → List Value → List ℕ
 cardOf x vs = loadedCard (incomingOf vs) (x .check) (firstText vs)
 
 -- SM?KC: slot and fingerprint stand within their bounds
-abbrev pub PendParts : Parts → List ℕ → Type 0
-PendParts p s =
+abbrev pub StartParts : Parts → List ℕ → Type 0
+StartParts p s =
     Stands s (p .slot) (kmcidOf (valuesOf s))
     × Stands s (p .fingerprint) (fingerprintOf (valuesOf s))
 
@@ -58,15 +58,15 @@ LoadParts p s =
 abbrev pub HasParts : Decision → Parts → List ℕ → Type 0
 HasParts (Refuse r) p s = Unit {0}
 HasParts Reset p s = Unit {0}
-HasParts (Pend k) p s = PendParts p s
+HasParts (Start k) p s = StartParts p s
 HasParts (Open k) p s = OpenParts p s
 HasParts (Load k) p s = LoadParts p s
-HasParts (Finish k) p s = Unit {0}
-HasParts (Delete k) p s = Unit {0}
-HasParts (Clear k) p s = Unit {0}
-HasParts (Show k) p s = Unit {0}
-HasParts Enumerate p s = Unit {0}
-HasParts (Query k) p s = Unit {0}
+HasParts (Close k) p s = Unit {0}
+HasParts (DeleteSlot k) p s = Unit {0}
+HasParts (DeleteKey k) p s = Unit {0}
+HasParts (GetCard k) p s = Unit {0}
+HasParts ListSlots p s = Unit {0}
+HasParts (QuerySlot k) p s = Unit {0}
 
 -- what was decided of a payload is the decision e, with its parts
 pub record IsDecided (d : Decided) (e : Decision) (s : List ℕ) : Type 0 where

@@ -22,7 +22,7 @@ pub struct Decided {
 }
 
 // The parts that SM?KC uses.
-pub fn pend_parts(slot: Bounds, fingerprint: Bounds) -> Parts
+pub fn start_parts(slot: Bounds, fingerprint: Bounds) -> Parts
     ensures { λ p. ⌜ p .slot ≡ slot ⌝ }
     ensures fingerprint { λ p. ⌜ p .fingerprint ≡ fingerprint ⌝ }
 {
@@ -39,7 +39,7 @@ pub fn pend_parts(slot: Bounds, fingerprint: Bounds) -> Parts
 pub fn open_parts(slot: Bounds) -> Parts
     ensures { λ p. ⌜ p .slot ≡ slot ⌝ }
 {
-    pend_parts(slot, Bounds { start: 0, end: 0 })
+    start_parts(slot, Bounds { start: 0, end: 0 })
 }
 
 // The parts that SM?KL uses.
@@ -62,7 +62,7 @@ pub fn without_parts(decision: Decision) -> Decided
     ensures { λ d. ⌜ d .decision ≡ decision ⌝ }
 {
     let nowhere = Bounds { start: 0, end: 0 };
-    let parts = pend_parts(nowhere, nowhere);
+    let parts = start_parts(nowhere, nowhere);
     Decided { decision, parts }
 }
 

@@ -15,8 +15,8 @@ use Rattle.engine.specs.Questions.{Call, slotPlace, sessionPlace, placeIn, slot
 use Rattle.engine.specs.Answers.{cardPlace}
 use Rattle.engine.specs.Decisions.{decided, decisionFor}
 use Rattle.engine.specs.declared.Refusal.the-variants.{BadFields}
-use Rattle.engine.specs.declared.Decision.the-variants.{Refuse, Reset, Pend, Open, Load, Finish, Delete, Clear, Show, Enumerate, Query}
-use Rattle.decide_questions.specs.CommandQuestions.{plainQuestions, slotQuestions, sessionQuestions, registerQuestions, pendQuestions, openQuestions, loadQuestions, slotAsked, registerAsked, doneAt}
+use Rattle.engine.specs.declared.Decision.the-variants.{Refuse, Reset, Start, Open, Load, Close, DeleteSlot, DeleteKey, GetCard, ListSlots, QuerySlot}
+use Rattle.decide_questions.specs.CommandQuestions.{plainQuestions, slotQuestions, sessionQuestions, registerQuestions, startQuestions, openQuestions, loadQuestions, slotAsked, registerAsked, doneAt}
 use Rattle.decide_questions.proofs.Asking.{asked-apart}
 use Rattle.decide_payloads.proofs.PayloadLaws.{text-fields}
 
@@ -31,40 +31,40 @@ module _ (c : Call) (vs : List Value) where
   unfolding decisionFor
   reset-is = refl
 
-  pub enumerate-is : decided (firstNo (plainQuestions vs)) Enumerate ≡ decisionFor c GL vs
+  pub list-slots-is : decided (firstNo (plainQuestions vs)) ListSlots ≡ decisionFor c GL vs
   unfolding decisionFor areFieldsOf
-  enumerate-is = refl
+  list-slots-is = refl
 
   -- a slot
   abbrev place : ℕ
   place = placeIn (c .slots) (slotPlace (firstText vs) (c .slots))
 
-  pub delete-is : doneAt Delete (slotAsked (c .slots) vs) ≡ decisionFor c KX vs
+  pub delete-slot-is : doneAt DeleteSlot (slotAsked (c .slots) vs) ≡ decisionFor c KX vs
   unfolding decisionFor slotIn areFieldsOf slotAsked
-  delete-is = asked-apart (slotQuestions (c .slots) vs) [] Delete place
+  delete-slot-is = asked-apart (slotQuestions (c .slots) vs) [] DeleteSlot place
 
-  pub query-is : doneAt Query (slotAsked (c .slots) vs) ≡ decisionFor c KQ vs
+  pub query-slot-is : doneAt QuerySlot (slotAsked (c .slots) vs) ≡ decisionFor c KQ vs
   unfolding decisionFor slotIn areFieldsOf slotAsked
-  query-is = asked-apart (slotQuestions (c .slots) vs) [] Query place
+  query-slot-is = asked-apart (slotQuestions (c .slots) vs) [] QuerySlot place
 
-  pub finish-is : doneAt (λ (k : ℕ). decided (firstNo (sessionQuestions (slotNamed (firstText vs) (c .slots)))) (Finish k)) (slotAsked (c .slots) vs) ≡ decisionFor c KF vs
+  pub close-is : doneAt (λ (k : ℕ). decided (firstNo (sessionQuestions (slotNamed (firstText vs) (c .slots)))) (Close k)) (slotAsked (c .slots) vs) ≡ decisionFor c KF vs
   unfolding decisionFor slotIn slotAsked
-  finish-is = asked-apart (slotQuestions (c .slots) vs) (sessionQuestions (slotNamed (firstText vs) (c .slots))) Finish place
+  close-is = asked-apart (slotQuestions (c .slots) vs) (sessionQuestions (slotNamed (firstText vs) (c .slots))) Close place
 
   -- a register
-  pub clear-is : doneAt Clear (registerAsked (c .registers) vs) ≡ decisionFor c KD vs
+  pub delete-key-is : doneAt DeleteKey (registerAsked (c .registers) vs) ≡ decisionFor c KD vs
   unfolding decisionFor registerAsked
-  clear-is = asked-apart (registerQuestions (c .registers) vs) [] Clear (registerIn vs - 1)
+  delete-key-is = asked-apart (registerQuestions (c .registers) vs) [] DeleteKey (registerIn vs - 1)
 
-  pub show-is : doneAt Show (registerAsked (c .registers) vs) ≡ decisionFor c GA vs
+  pub get-card-is : doneAt GetCard (registerAsked (c .registers) vs) ≡ decisionFor c GA vs
   unfolding decisionFor areFieldsOf registerAsked
-  show-is = asked-apart (registerQuestions (c .registers) vs) [] Show (registerIn vs - 1)
+  get-card-is = asked-apart (registerQuestions (c .registers) vs) [] GetCard (registerIn vs - 1)
 
   -- a record
   module _ (r : List ℕ) (f : areFieldsOf KF vs ≡ true) (q : r ≡ firstText vs) where
-    pub pend-is : decided (firstNo (pendQuestions (c .slots) (c .supplement) r)) (Pend (placeIn (c .slots) (sessionPlace (nameIn (kmcIdentityIn r)) (c .slots)))) ≡ decisionFor c KC vs
+    pub start-is : decided (firstNo (startQuestions (c .slots) (c .supplement) r)) (Start (placeIn (c .slots) (sessionPlace (nameIn (kmcIdentityIn r)) (c .slots)))) ≡ decisionFor c KC vs
     unfolding decisionFor recordIn slotIn
-    pend-is = sym (rw (text-fields KC vs refl, f, ← q, and-true (parsesPublicKey r), and-true (publicKeyInForm r)) refl)
+    start-is = sym (rw (text-fields KC vs refl, f, ← q, and-true (parsesPublicKey r), and-true (publicKeyInForm r)) refl)
 
     pub open-is : decided (firstNo (openQuestions (c .slots) (c .supplement) r (slotNamed (nameIn (kmcIdentityIn r)) (c .slots)))) (Open (placeIn (c .slots) (slotPlace (nameIn (kmcIdentityIn r)) (c .slots)))) ≡ decisionFor c KR vs
     unfolding decisionFor recordIn slotIn

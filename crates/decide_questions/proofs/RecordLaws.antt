@@ -42,10 +42,10 @@ use Rattle.engine.specs.Answers.{cardPlace}
 use Rattle.engine.specs.Decisions.{decided, decisionFor}
 use Rattle.engine.specs.declared.Refusal.the-variants.{BadFields, Expired, UnknownSlot, NoFreeSlot, WrongState, CheckFailed}
 use Rattle.engine.specs.declared.Decision.{Decision}
-use Rattle.engine.specs.declared.Decision.the-variants.{Refuse, Pend, Open, Load}
-use Rattle.decide_questions.specs.CommandQuestions.{pendQuestions, responseQuestions, openQuestions, storeQuestions, loadQuestions}
+use Rattle.engine.specs.declared.Decision.the-variants.{Refuse, Start, Open, Load}
+use Rattle.decide_questions.specs.CommandQuestions.{startQuestions, responseQuestions, openQuestions, storeQuestions, loadQuestions}
 use Rattle.decide_questions.proofs.Known.{place-below, row-named}
-use Rattle.decide_questions.proofs.Flat.{fields-refused, pend-is, open-is, load-is}
+use Rattle.decide_questions.proofs.Flat.{fields-refused, start-is, open-is, load-is}
 
 -- the row of a slot that was found, as the code has it
 row-at : (l : List SlotRow) (n : ℕ) → length l ≡ 8 → n ≤ 8 → (s : List ℕ) (p : Place) → placeOf p ≡ slotPlace s (take n l) → PlaceWithin n p → (k : ℕ) → p ≡ At k → (d : SlotRow) → getD l k d ≡ slotNamed s (take n l)
@@ -69,23 +69,23 @@ module _ (c : Call) (p : List ℕ) (at : Bounds) (only : OnlyText p at) (S : Lis
   name = nameIn (kmcIdentityIn r)
 
   module _ (x : Supplement) (g : c .supplement ≡ x) where
-    pub pend-by : d ≡ decided (firstNo (pendQuestions S x r)) (Pend (placeIn S (sessionPlace name S))) → d ≡ decisionFor c KC (valuesOf p)
-    pend-by e = (rw (← h, ← g) at e) ∙ pend-is c (valuesOf p) r (only .typed) (only .stands .1)
+    pub start-by : d ≡ decided (firstNo (startQuestions S x r)) (Start (placeIn S (sessionPlace name S))) → d ≡ decisionFor c KC (valuesOf p)
+    start-by e = (rw (← h, ← g) at e) ∙ start-is c (valuesOf p) r (only .typed) (only .stands .1)
 
     pub open-by : d ≡ decided (firstNo (openQuestions S x r (slotNamed name S))) (Open (placeIn S (slotPlace name S))) → d ≡ decisionFor c KR (valuesOf p)
     open-by e = (rw (← h, ← g) at e) ∙ open-is c (valuesOf p) r (only .typed) (only .stands .1)
 
     -- once the record parses and is in form: what is asked of a public key then,
     module _ (t u : Bool) (o : not t ≡ false) (m : not u ≡ false) where
-      abbrev pendLater : List Question
-      pendLater =
+      abbrev startLater : List Question
+      startLater =
           (isLater (timestampOf (expiryIn r)) (timestampOf (x .clock)) otherwise Expired)
           ∷ (isPlace (sessionPlace name S) otherwise NoFreeSlot)
           ∷ (eqb (x .passed) 1 otherwise CheckFailed)
           ∷ []
 
-      pub pend-then : t ≡ parsesPublicKey r → u ≡ publicKeyInForm r → d ≡ decided (firstNo pendLater) (Pend (placeIn S (sessionPlace name S))) → d ≡ decisionFor c KC (valuesOf p)
-      pend-then q v e = pend-by (e ∙ sym (rw (← q, not-false t o, ← v, not-false u m)))
+      pub start-then : t ≡ parsesPublicKey r → u ≡ publicKeyInForm r → d ≡ decided (firstNo startLater) (Start (placeIn S (sessionPlace name S))) → d ≡ decisionFor c KC (valuesOf p)
+      start-then q v e = start-by (e ∙ sym (rw (← q, not-false t o, ← v, not-false u m)))
 
       -- and of a load response, of the slot's row
       abbrev openLater : SlotRow → List Question

@@ -32,20 +32,20 @@ use Rattle.engine.specs.Decisions.{decided, decisionFor}
 use Rattle.engine.specs.declared.Refusal.{Refusal}
 use Rattle.engine.specs.declared.Refusal.the-variants.{BadFields, UnknownSlot, EmptyRegister}
 use Rattle.engine.specs.declared.Decision.{Decision}
-use Rattle.engine.specs.declared.Decision.the-variants.{Refuse, Reset, Finish, Delete, Clear, Show, Enumerate, Query}
+use Rattle.engine.specs.declared.Decision.the-variants.{Refuse, Reset, Close, DeleteSlot, DeleteKey, GetCard, ListSlots, QuerySlot}
 use Rattle.decide_questions.specs.CommandQuestions.{plainQuestions, sessionQuestions, askedOf, slotAsked, registerAsked, doneAt}
 use Rattle.decide_questions.specs.declared.Asked.{Asked}
 use Rattle.decide_questions.specs.declared.Asked.the-variants.{No, At}
 use Rattle.decide_questions.proofs.Known.{place-in, place-fits, row-named}
-use Rattle.decide_questions.proofs.Flat.{reset-is, enumerate-is, finish-is, delete-is, query-is, clear-is, show-is}
+use Rattle.decide_questions.proofs.Flat.{reset-is, list-slots-is, close-is, delete-slot-is, query-slot-is, delete-key-is, get-card-is}
 
 -- no field
 module _ (c : Call) (vs : List Value) (d : Decision) where
   pub reset-by : d ≡ decided (firstNo (plainQuestions vs)) Reset → d ≡ decisionFor c RS vs
   reset-by e = e ∙ reset-is c vs
 
-  pub enumerate-by : d ≡ decided (firstNo (plainQuestions vs)) Enumerate → d ≡ decisionFor c GL vs
-  enumerate-by e = e ∙ enumerate-is c vs
+  pub list-slots-by : d ≡ decided (firstNo (plainQuestions vs)) ListSlots → d ≡ decisionFor c GL vs
+  list-slots-by e = e ∙ list-slots-is c vs
 
 -- the slot that was asked for
 module _ (p : List ℕ) (f : Found) (w : between p f ≡ textIn (valuesOf p)) (S : List SlotRow) where
@@ -84,17 +84,17 @@ module _ (vs : List Value) (f : Count) (w : countIn f ≡ numberIn vs) (R : List
 -- what is to be done there
 module _ (c : Call) (vs : List Value) (d : Decision) where
   module _ (l : List SlotRow) (h : c .slots ≡ l) where
-    pub delete-by : d ≡ doneAt Delete (slotAsked l vs) → d ≡ decisionFor c KX vs
-    delete-by e = (rw (← h) at e) ∙ delete-is c vs
+    pub delete-slot-by : d ≡ doneAt DeleteSlot (slotAsked l vs) → d ≡ decisionFor c KX vs
+    delete-slot-by e = (rw (← h) at e) ∙ delete-slot-is c vs
 
-    pub query-by : d ≡ doneAt Query (slotAsked l vs) → d ≡ decisionFor c KQ vs
-    query-by e = (rw (← h) at e) ∙ query-is c vs
+    pub query-slot-by : d ≡ doneAt QuerySlot (slotAsked l vs) → d ≡ decisionFor c KQ vs
+    query-slot-by e = (rw (← h) at e) ∙ query-slot-is c vs
 
-  pub clear-by : d ≡ doneAt Clear (registerAsked (c .registers) vs) → d ≡ decisionFor c KD vs
-  clear-by e = e ∙ clear-is c vs
+  pub delete-key-by : d ≡ doneAt DeleteKey (registerAsked (c .registers) vs) → d ≡ decisionFor c KD vs
+  delete-key-by e = e ∙ delete-key-is c vs
 
-  pub show-by : d ≡ doneAt Show (registerAsked (c .registers) vs) → d ≡ decisionFor c GA vs
-  show-by e = e ∙ show-is c vs
+  pub get-card-by : d ≡ doneAt GetCard (registerAsked (c .registers) vs) → d ≡ decisionFor c GA vs
+  get-card-by e = e ∙ get-card-is c vs
 
 -- SM?KF: a slot that was found is asked for its session
 place-asked : (S : List SlotRow) (vs : List Value) (k : ℕ) → slotAsked S vs ≡ At k → slotPlace (firstText vs) S ≡ some k
@@ -107,8 +107,8 @@ place-asked S vs k = go (areFieldsOf KF vs) (slotPlace (firstText vs) S)
     go false o e = nope (cc)
 
 module _ (l : List SlotRow) (n : ℕ) (vs : List Value) (a : Asked) (w : a ≡ slotAsked (take n l) vs) where
-  pub finish-refused : (c : Call) → c .slots ≡ take n l → (r : Refusal) → a ≡ No r → Refuse r ≡ decisionFor c KF vs
-  finish-refused c g r o = let q : slotAsked (c .slots) vs ≡ No r = rw g (sym w ∙ o) in rw q at (finish-is c vs)
+  pub close-refused : (c : Call) → c .slots ≡ take n l → (r : Refusal) → a ≡ No r → Refuse r ≡ decisionFor c KF vs
+  close-refused c g r o = let q : slotAsked (c .slots) vs ≡ No r = rw g (sym w ∙ o) in rw q at (close-is c vs)
 
   module _ (z : length l ≡ 8) (h : n ≤ 8) (k : ℕ) (o : a ≡ At k) where
     slot-at : slotPlace (firstText vs) (take n l) ≡ some k
@@ -123,8 +123,8 @@ module _ (l : List SlotRow) (n : ℕ) (vs : List Value) (a : Asked) (w : a ≡ s
     pub slot-fits : k * 73 < 2 ^ 64
     slot-fits = place-fits n (place.At k) k slot-below refl h
 
-    pub finish-by : (c : Call) → c .slots ≡ take n l → (t : Bool) (y : SlotRow) → t ≡ (hasState Pending (getD l k y) || hasState Loading (getD l k y)) → (d : Decision)
-        → d ≡ decided (firstNo (sessionQuestions (getD l k y))) (Finish k) → d ≡ decisionFor c KF vs
-    finish-by c g t y m d e =
+    pub close-by : (c : Call) → c .slots ≡ take n l → (t : Bool) (y : SlotRow) → t ≡ (hasState Pending (getD l k y) || hasState Loading (getD l k y)) → (d : Decision)
+        → d ≡ decided (firstNo (sessionQuestions (getD l k y))) (Close k) → d ≡ decisionFor c KF vs
+    close-by c g t y m d e =
         let q : slotAsked (c .slots) vs ≡ At k = rw g (sym w ∙ o) in
-        (rw (row-named l n k (firstText vs) y z h slot-below slot-at, ← g) at e) ∙ (rw q at (finish-is c vs))
+        (rw (row-named l n k (firstText vs) y z h slot-below slot-at, ← g) at e) ∙ (rw q at (close-is c vs))

@@ -55,8 +55,8 @@ registerQuestions R vs =
     ∷ []
 
 -- SM?KC, once its field is right
-abbrev pub pendQuestions : List SlotRow → Supplement → List ℕ → List Question
-pendQuestions S x r =
+abbrev pub startQuestions : List SlotRow → Supplement → List ℕ → List Question
+startQuestions S x r =
     (parsesPublicKey r otherwise BadRecord)
     ∷ (publicKeyInForm r otherwise BadForm)
     ∷ (isLater (timestampOf (expiryIn r)) (timestampOf (x .clock)) otherwise Expired)

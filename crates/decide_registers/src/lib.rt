@@ -37,7 +37,7 @@ fn ask_register(keys: [u64; 32], register_count: usize, payload: &[u8]) -> Asked
 }
 
 // SM?KD.
-pub fn decide_clear(keys: [u64; 32], register_count: usize, payload: &[u8]) -> Decision
+pub fn decide_delete_key(keys: [u64; 32], register_count: usize, payload: &[u8]) -> Decision
     requires { ⌜ «register_count» ≤ 32 ⌝ }
     ensures { λ d. ⌜ ((c : Call) → AreKeys (take «register_count» keys) (c .registers)
         → d ≡ decisionFor c KD (valuesOf (now (payload .entry)))) ⌝ }
@@ -45,12 +45,12 @@ pub fn decide_clear(keys: [u64; 32], register_count: usize, payload: &[u8]) -> D
     let asked = ask_register(keys, register_count, payload);
     match asked {
         Asked::No(r) => Decision::Refuse(r),
-        Asked::At(k) => Decision::Clear(k),
+        Asked::At(k) => Decision::DeleteKey(k),
     }
 }
 
 // SM?GA.
-pub fn decide_show(keys: [u64; 32], register_count: usize, payload: &[u8]) -> Decision
+pub fn decide_get_card(keys: [u64; 32], register_count: usize, payload: &[u8]) -> Decision
     requires { ⌜ «register_count» ≤ 32 ⌝ }
     ensures { λ d. ⌜ ((c : Call) → AreKeys (take «register_count» keys) (c .registers)
         → d ≡ decisionFor c GA (valuesOf (now (payload .entry)))) ⌝ }
@@ -58,6 +58,6 @@ pub fn decide_show(keys: [u64; 32], register_count: usize, payload: &[u8]) -> De
     let asked = ask_register(keys, register_count, payload);
     match asked {
         Asked::No(r) => Decision::Refuse(r),
-        Asked::At(k) => Decision::Show(k),
+        Asked::At(k) => Decision::GetCard(k),
     }
 }

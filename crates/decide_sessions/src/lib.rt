@@ -19,23 +19,23 @@ ghost use Rattle.message_commands.specs.declared.Command.the-variants.{KC, KR};
 ghost use Rattle.record_types.specs.KeyRecords.{IsResponse};
 ghost use Rattle.engine.specs.Questions.{Call, firstNo};
 ghost use Rattle.engine.specs.Decisions.{decided, decisionFor};
-ghost use Rattle.engine.specs.declared.Decision.the-variants.{Pend, Open};
+ghost use Rattle.engine.specs.declared.Decision.the-variants.{Start, Open};
 ghost use Rattle.decide_payloads.specs.Payloads.{OnlyText};
 ghost use Rattle.decide_parts.specs.Parts.{IsDecided};
 ghost use Rattle.decide_questions.specs.CommandQuestions.{responseQuestions};
 
 // SM?KC granted, of the record within bounds: KMCID and fingerprint have theirs in the record.
-fn pend(k: usize, at: Bounds, kmcid: Bounds, fingerprint: Bounds) -> Decided
+fn grant_start(k: usize, at: Bounds, kmcid: Bounds, fingerprint: Bounds) -> Decided
     requires { ⌜ (at .start ≤ at .end)
         × (FitIn (at .end - at .start) kmcid × FitIn (at .end - at .start) fingerprint) ⌝ }
-    ensures { λ d. ⌜ d .decision ≡ Pend k ⌝ }
+    ensures { λ d. ⌜ d .decision ≡ Start k ⌝ }
     ensures slot { λ d. ⌜ d .parts .slot ≡ inside at kmcid ⌝ }
     ensures fingerprint { λ d. ⌜ d .parts .fingerprint ≡ inside at fingerprint ⌝ }
 {
     let slot = byte_bounds::inside(at, kmcid);
-    let parts = decide_parts::pend_parts(slot, byte_bounds::inside(at, fingerprint));
+    let parts = decide_parts::start_parts(slot, byte_bounds::inside(at, fingerprint));
     Decided {
-        decision: Decision::Pend(k),
+        decision: Decision::Start(k),
         parts,
     }
 }
@@ -76,11 +76,11 @@ fn decide_public_key(
         return decide_parts::refuse(Refusal::CheckFailed);
     }
     let fingerprint = decide_records::fingerprint_bounds(r, fields, kmc);
-    pend(k, at, kmcid, fingerprint)
+    grant_start(k, at, kmcid, fingerprint)
 }
 
 // SM?KC.
-pub fn decide_pend(
+pub fn decide_start(
     slots: [SlotRow; 8],
     slot_count: usize,
     supplement: Supplement,

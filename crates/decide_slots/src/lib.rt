@@ -33,10 +33,10 @@ pub fn decide_reset(payload: &[u8]) -> Decision
 }
 
 // SM?GL.
-pub fn decide_enumerate(payload: &[u8]) -> Decision
+pub fn decide_list_slots(payload: &[u8]) -> Decision
     ensures { λ d. ⌜ ((c : Call) → d ≡ decisionFor c GL (valuesOf (now (payload .entry)))) ⌝ }
 {
-    decide_plain(payload, Decision::Enumerate)
+    decide_plain(payload, Decision::ListSlots)
 }
 
 // The slot that the only field names.
@@ -56,7 +56,7 @@ fn ask_slot(slots: [SlotRow; 8], slot_count: usize, payload: &[u8]) -> Asked
 }
 
 // SM?KF: the slot has a session.
-pub fn decide_finish(slots: [SlotRow; 8], slot_count: usize, payload: &[u8]) -> Decision
+pub fn decide_close(slots: [SlotRow; 8], slot_count: usize, payload: &[u8]) -> Decision
     requires { ⌜ «slot_count» ≤ 8 ⌝ }
     ensures { λ d. ⌜ ((c : Call) → c .slots ≡ take «slot_count» slots
         → d ≡ decisionFor c KF (valuesOf (now (payload .entry)))) ⌝ }
@@ -69,13 +69,13 @@ pub fn decide_finish(slots: [SlotRow; 8], slot_count: usize, payload: &[u8]) -> 
             if !decide_records::has_session(row) {
                 return Decision::Refuse(Refusal::WrongState);
             }
-            Decision::Finish(k)
+            Decision::Close(k)
         }
     }
 }
 
 // SM?KX.
-pub fn decide_delete(slots: [SlotRow; 8], slot_count: usize, payload: &[u8]) -> Decision
+pub fn decide_delete_slot(slots: [SlotRow; 8], slot_count: usize, payload: &[u8]) -> Decision
     requires { ⌜ «slot_count» ≤ 8 ⌝ }
     ensures { λ d. ⌜ ((c : Call) → c .slots ≡ take «slot_count» slots
         → d ≡ decisionFor c KX (valuesOf (now (payload .entry)))) ⌝ }
@@ -83,12 +83,12 @@ pub fn decide_delete(slots: [SlotRow; 8], slot_count: usize, payload: &[u8]) -> 
     let asked = ask_slot(slots, slot_count, payload);
     match asked {
         Asked::No(r) => Decision::Refuse(r),
-        Asked::At(k) => Decision::Delete(k),
+        Asked::At(k) => Decision::DeleteSlot(k),
     }
 }
 
 // SM?KQ.
-pub fn decide_query(slots: [SlotRow; 8], slot_count: usize, payload: &[u8]) -> Decision
+pub fn decide_query_slot(slots: [SlotRow; 8], slot_count: usize, payload: &[u8]) -> Decision
     requires { ⌜ «slot_count» ≤ 8 ⌝ }
     ensures { λ d. ⌜ ((c : Call) → c .slots ≡ take «slot_count» slots
         → d ≡ decisionFor c KQ (valuesOf (now (payload .entry)))) ⌝ }
@@ -96,6 +96,6 @@ pub fn decide_query(slots: [SlotRow; 8], slot_count: usize, payload: &[u8]) -> D
     let asked = ask_slot(slots, slot_count, payload);
     match asked {
         Asked::No(r) => Decision::Refuse(r),
-        Asked::At(k) => Decision::Query(k),
+        Asked::At(k) => Decision::QuerySlot(k),
     }
 }

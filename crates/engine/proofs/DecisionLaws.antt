@@ -14,7 +14,7 @@ use Rattle.engine.specs.Answers.{effect, refused, answerOf}
 use Rattle.engine.specs.Decisions.{decided, granted, laterQuestions, decisionFor, decisionOf}
 use Rattle.engine.specs.declared.Refusal.{Refusal}
 use Rattle.engine.specs.declared.Decision.{Decision}
-use Rattle.engine.specs.declared.Decision.the-variants.{Refuse, Reset, Pend, Open, Load, Finish, Delete, Clear, Show, Enumerate, Query}
+use Rattle.engine.specs.declared.Decision.the-variants.{Refuse, Reset, Start, Open, Load, Close, DeleteSlot, DeleteKey, GetCard, ListSlots, QuerySlot}
 use Rattle.engine.proofs.Steps.{yes-of}
 
 -- questions in two groups: the first no of the first, else of the second
@@ -31,28 +31,28 @@ in-turn ((false otherwise r) ∷ ps) qs = refl
 abbrev pub commandFor : Decision → Command
 commandFor (Refuse r) = Unknown
 commandFor Reset = RS
-commandFor (Pend k) = KC
+commandFor (Start k) = KC
 commandFor (Open k) = KR
 commandFor (Load k) = KL
-commandFor (Finish k) = KF
-commandFor (Delete k) = KX
-commandFor (Clear k) = KD
-commandFor (Show k) = GA
-commandFor Enumerate = GL
-commandFor (Query k) = KQ
+commandFor (Close k) = KF
+commandFor (DeleteSlot k) = KX
+commandFor (DeleteKey k) = KD
+commandFor (GetCard k) = GA
+commandFor ListSlots = GL
+commandFor (QuerySlot k) = KQ
 
 abbrev pub isRefuse : Decision → Bool
 isRefuse (Refuse r) = true
 isRefuse Reset = false
-isRefuse (Pend k) = false
+isRefuse (Start k) = false
 isRefuse (Open k) = false
 isRefuse (Load k) = false
-isRefuse (Finish k) = false
-isRefuse (Delete k) = false
-isRefuse (Clear k) = false
-isRefuse (Show k) = false
-isRefuse Enumerate = false
-isRefuse (Query k) = false
+isRefuse (Close k) = false
+isRefuse (DeleteSlot k) = false
+isRefuse (DeleteKey k) = false
+isRefuse (GetCard k) = false
+isRefuse ListSlots = false
+isRefuse (QuerySlot k) = false
 
 module _ (x : Call) (vs : List Value) (r s : List ℕ) where
   granted-for : (c : Command) → isOneOfTen c ≡ true → (commandFor (granted x c vs r s) ≡ c) × (isRefuse (granted x c vs r s) ≡ false)

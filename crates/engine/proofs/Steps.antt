@@ -43,7 +43,7 @@ use Rattle.row_types.specs.declared.SlotState.{SlotState}
 use Rattle.row_types.specs.declared.SlotState.the-variants.{Pending, Loading, Idle}
 use Rattle.row_types.proofs.ListLaws.{map-set, map-sweep, every-true}
 use Rattle.history.specs.Model.{pending, loading, idle, used, free, key, kl, loaded, Item, _⇒_, dropKey, dropSlot, stopped, reset}
-use Rattle.history.specs.Step.{Step, refuses, reads, starts, responds, loads, finishes, deletes, clears, resets}
+use Rattle.history.specs.Step.{Step, refuses, reads, starts, opens, loads, closes, deletes-slot, deletes-key, resets}
 use Rattle.engine.specs.Requests.{commandIn, fieldsIn, isOneOfTen, areFieldsOf, registerIn, recordIn, kmcIdentityIn, slotIn, cardIn, firstText}
 use Rattle.engine.specs.Questions.{Call, asked, areCounts, isRecordInForm, isStateRight, isPlace, slotPlace, sessionPlace, storePlace, slotNamed, placeIn, isFilled, groupIn, revisionIn, questions, firstNo}
 use Rattle.engine.specs.Answers.{Answer, response, accepted, slotsMoved, slotsPending, slotsWithout, loadedCard, cardPlace, answered, listed, effect, answerTo, answerOf}
@@ -169,7 +169,7 @@ kr-step x vs y names =
     let k = known-at (x .slots) (slotIn KR vs) (y .known) in
     let w : eqb (v x KR vs y k .state) 1 ≡ true = rw (row-is x KR vs y k) at (and-first (hasState Pending (slotNamed (slotIn KR vs) (x .slots))) _ (y .state)) in
     let e : getD (map slotIs (x .slots)) (k .place) free ≡ used (slotIn KR vs) pending = row-reads x KR vs y k ∙ rw w refl in
-    rw (says-yes x KR vs y, slots-moved x KR vs y k Loading refl) (responds (slotIn KR vs) (k .place) e)
+    rw (says-yes x KR vs y, slots-moved x KR vs y k Loading refl) (opens (slotIn KR vs) (k .place) e)
 
 -- a state that is PENDING or LOADING is not IDLE
 not-idle : (n : ℕ) → (eqb n 1 || eqb n 2) ≡ true → stateIn n ≢ idle
@@ -185,7 +185,7 @@ unfolding answered
 kf-step x vs y names =
     let k = known-at (x .slots) (slotIn KF vs) (y .known) in
     let w : (hasState Pending (v x KF vs y k) || hasState Loading (v x KF vs y k)) ≡ true = rw (row-is x KF vs y k) at (y .state) in
-    rw (says-yes x KF vs y, slots-moved x KF vs y k Idle refl) (finishes (slotIn KF vs) (k .place) _ (not-idle (v x KF vs y k .state) w) (row-reads x KF vs y k))
+    rw (says-yes x KF vs y, slots-moved x KF vs y k Idle refl) (closes (slotIn KF vs) (k .place) _ (not-idle (v x KF vs y k .state) w) (row-reads x KF vs y k))
 
 -- what the registers say after SM?KX, and the slots after GL?RS
 kx-registers : (x : Call) (vs : List Value) → map registerIs (effect x KX vs (recordIn KX vs) (slotIn KX vs) .registers) ≡ map (dropKey (slotIn KX vs)) (map registerIs (x .registers))
@@ -200,7 +200,7 @@ kx-step : (x : Call) (vs : List Value) → Yes x KX vs → IsStep x KX vs (effec
 unfolding answered dropSlot
 kx-step x vs y names =
     let k = known-at (x .slots) (slotIn KX vs) (y .known) in
-    rw (says-yes x KX vs y, slots-without x KX vs y k, kx-registers x vs) (deletes (slotIn KX vs) (k .place) _ (row-reads x KX vs y k))
+    rw (says-yes x KX vs y, slots-without x KX vs y k, kx-registers x vs) (deletes-slot (slotIn KX vs) (k .place) _ (row-reads x KX vs y k))
 
 rs-step : (x : Call) (vs : List Value) → Yes x RS vs → IsStep x RS vs (effect x RS vs (recordIn RS vs) (slotIn RS vs))
 unfolding answered reset
@@ -306,7 +306,7 @@ module _ (x : Call) (vs : List Value) (y : Yes x KD vs) where
       let g = rw m at (and-second (leb (suc i) (length (x .registers))) _ (and-second (leb 1 (suc i)) _ f)) in
       let o : isVacant r ≡ false = no (isVacant r) (holds (not (isVacant r)) g) in
       rw (says-yes x KD vs y, e, m, map-set registerIs (x .registers) i freeRegister, free-register-reads)
-      (clears i (attributeOf SGC r) (attributeOf KRN r) (attributeOf KSL r) (r .card) (register-row (x .registers) i ∙ filled-key r o))
+      (deletes-key i (attributeOf SGC r) (attributeOf KRN r) (attributeOf KSL r) (r .card) (register-row (x .registers) i ∙ filled-key r o))
 
   kd-step : IsStep x KD vs (effect x KD vs (recordIn KD vs) (slotIn KD vs))
   kd-step = kd-step-of (registerIn vs) refl (y .filled)

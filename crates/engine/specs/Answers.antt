@@ -115,34 +115,35 @@ listed x = record {
 -- what each command does (document 01, Slots and registers; the clauses are 001's): vs are its fields, r the record
 -- among them, s the slot that it names
 abbrev pub effect : Call → Command → List Value → List ℕ → List ℕ → Answer
--- GL?RS, 6.2.7: PENDING and LOADING become IDLE
+-- GL?RS, 6.2.7, resets: PENDING and LOADING become IDLE
 effect x RS vs r s = answered x Done [] (map resetSlot (x .slots)) (x .registers)
--- SM?KC, 6.3.3: the slot becomes PENDING, its keys stay; slot and load request are replied
+-- SM?KC, 6.3.3, starts a session: the slot becomes PENDING, its keys stay; slot and load request are replied
 effect x KC vs r s =
     answered x (Accepted Pending) (string s ∷ string (loadRequest (x .supplement)) ∷ [])
     (slotsPending s (fingerprintIn (kmcIdentityIn r)) (x .supplement .clock) (x .slots)) (x .registers)
--- SM?KR, 6.3.4: PENDING becomes LOADING, TVP cleared; the slot is replied
+-- SM?KR, 6.3.4, opens it: PENDING becomes LOADING, TVP cleared; the slot is replied
 effect x KR vs r s = answered x (Accepted Loading) (string s ∷ []) (slotsMoved Loading s (x .slots)) (x .registers)
--- SM?KL, 6.3.5: the key goes to the register that holds it, else to the lowest free one; register and stored card are
--- replied
+-- SM?KL, 6.3.5, loads a key: it goes to the register that holds it, else to the lowest free one; register and stored
+-- card are replied
 effect x KL vs r s =
     answered x (Accepted Loading)
     (number (cardPlace (cardIn r) (x .registers) + 1) ∷ string (loadedCard (cardIn r) (x .supplement .check) s) ∷ [])
     (x .slots)
     (set (x .registers) (cardPlace (cardIn r) (x .registers))
     (filledRegister (loadedCard (cardIn r) (x .supplement .check) s)))
--- SM?KF, 6.3.6: PENDING or LOADING becomes IDLE
+-- SM?KF, 6.3.6, closes the session: PENDING or LOADING becomes IDLE
 effect x KF vs r s = answered x (Accepted Idle) [] (slotsMoved Idle s (x .slots)) (x .registers)
--- SM?KX, 6.3.7: the row becomes free, as do just the registers whose KSL is the slot
+-- SM?KX, 6.3.7, deletes a slot: the row becomes free, as do just the registers whose KSL is the slot
 effect x KX vs r s = answered x (Accepted Free) [] (slotsWithout s (x .slots)) (map (withoutSlot s) (x .registers))
--- SM?KD, 6.3.9: the register becomes free
+-- SM?KD, 6.3.9, deletes a key: the register becomes free
 effect x KD vs r s = answered x Done [] (x .slots) (set (x .registers) (registerIn vs - 1) freeRegister)
--- SM?GA, 6.3.8: the stored card is replied
+-- SM?GA, 6.3.8, gets a card: the stored card is replied
 effect x GA vs r s =
     answered x Done (string (storedIn (registerNumbered (registerIn vs) (x .registers))) ∷ []) (x .slots) (x .registers)
--- SM?GL, 6.3.1: each slot not free is replied once
+-- SM?GL, 6.3.1, lists the slots: each slot not free is replied once
 effect x GL vs r s = listed x
--- SM?KQ, 6.3.2: state, KMCID, TVP and fingerprints of the slot, and the numbers of its registers are replied
+-- SM?KQ, 6.3.2, queries a slot: state, KMCID, TVP and fingerprints of the slot, and the numbers of its registers are
+-- replied
 effect x KQ vs r s = answered x Done (queryFields (slotNamed s (x .slots)) (x .registers)) (x .slots) (x .registers)
 -- no command: question 7 comes first
 effect x Unknown vs r s = answered x Done [] (x .slots) (x .registers)

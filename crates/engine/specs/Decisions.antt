@@ -13,8 +13,8 @@ use Rattle.engine.specs.Answers.{cardPlace}
 use Rattle.engine.specs.declared.Refusal.{Refusal}
 use Rattle.engine.specs.declared.Refusal.the-variants.{UnknownHeader}
 use Rattle.engine.specs.declared.Decision.{Decision}
-use Rattle.engine.specs.declared.Decision.the-variants.{Refuse, Reset, Pend, Open, Load, Finish}
-use Rattle.engine.specs.declared.Decision.the-variants.{Delete, Clear, Show, Enumerate, Query}
+use Rattle.engine.specs.declared.Decision.the-variants.{Refuse, Reset, Start, Open, Load, Close}
+use Rattle.engine.specs.declared.Decision.the-variants.{DeleteSlot, DeleteKey, GetCard, ListSlots, QuerySlot}
 
 abbrev pub decided : Option Refusal → Decision → Decision
 decided (some r) d = Refuse r
@@ -23,15 +23,15 @@ decided none d = d
 -- all yes: what the command does; vs are its fields, r the record among them, s the slot that it names
 abbrev pub granted : Call → Command → List Value → List ℕ → List ℕ → Decision
 granted x RS vs r s = Reset
-granted x KC vs r s = Pend (placeIn (x .slots) (sessionPlace s (x .slots)))
+granted x KC vs r s = Start (placeIn (x .slots) (sessionPlace s (x .slots)))
 granted x KR vs r s = Open (placeIn (x .slots) (slotPlace s (x .slots)))
 granted x KL vs r s = Load (cardPlace (cardIn r) (x .registers))
-granted x KF vs r s = Finish (placeIn (x .slots) (slotPlace s (x .slots)))
-granted x KX vs r s = Delete (placeIn (x .slots) (slotPlace s (x .slots)))
-granted x KD vs r s = Clear (registerIn vs - 1)
-granted x GA vs r s = Show (registerIn vs - 1)
-granted x GL vs r s = Enumerate
-granted x KQ vs r s = Query (placeIn (x .slots) (slotPlace s (x .slots)))
+granted x KF vs r s = Close (placeIn (x .slots) (slotPlace s (x .slots)))
+granted x KX vs r s = DeleteSlot (placeIn (x .slots) (slotPlace s (x .slots)))
+granted x KD vs r s = DeleteKey (registerIn vs - 1)
+granted x GA vs r s = GetCard (registerIn vs - 1)
+granted x GL vs r s = ListSlots
+granted x KQ vs r s = QuerySlot (placeIn (x .slots) (slotPlace s (x .slots)))
 granted x Unknown vs r s = Refuse UnknownHeader
 
 -- questions 8 to 18, where the message is right and brings the command c with the fields vs

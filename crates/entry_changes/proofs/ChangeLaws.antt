@@ -24,9 +24,9 @@ use Rattle.row_types.proofs.PlaceCounts.{getD-any}
 use Rattle.engine.specs.Requests.{firstText}
 use Rattle.engine.specs.Answers.{loadedCard}
 use Rattle.engine.specs.declared.Decision.{Decision}
-use Rattle.engine.specs.declared.Decision.the-variants.{Refuse, Reset, Pend, Open, Load, Finish, Delete, Clear, Show, Enumerate, Query}
+use Rattle.engine.specs.declared.Decision.the-variants.{Refuse, Reset, Start, Open, Load, Close, DeleteSlot, DeleteKey, GetCard, ListSlots, QuerySlot}
 use Rattle.engine.proofs.Decision.{the-type}
-use Rattle.decide_parts.specs.Parts.{pendingRow, cardOf, PendParts, LoadParts}
+use Rattle.decide_parts.specs.Parts.{pendingRow, cardOf, StartParts, LoadParts}
 use Rattle.decide_parts.specs.declared.Parts.{Parts}
 use Rattle.row_index.specs.Lent.{rowWith, rowsWith}
 use Rattle.register_tables.specs.Freed.{freed}
@@ -68,15 +68,15 @@ module _ (d : Decision) (p : Parts) (n : ℕ) (s : List ℕ) (can : CanChangeSlo
   reset-can e = rw e at can
 
   module _ (k : ℕ) where
-    module _ (e : d ≡ Pend k) where
-      pub pend-can : k < 8
-      pend-can = (rw e at can) .0
+    module _ (e : d ≡ Start k) where
+      pub start-can : k < 8
+      start-can = (rw e at can) .0
 
-      pub pend-fits : k * 73 < 2 ^ 64
-      pend-fits = slot-fits k pend-can
+      pub start-fits : k * 73 < 2 ^ 64
+      start-fits = slot-fits k start-can
 
-      pub pend-parts : PendParts p s
-      pend-parts = (rw e at can) .1
+      pub start-parts : StartParts p s
+      start-parts = (rw e at can) .1
 
     module _ (e : d ≡ Open k) where
       pub open-can : k < 8
@@ -85,19 +85,19 @@ module _ (d : Decision) (p : Parts) (n : ℕ) (s : List ℕ) (can : CanChangeSlo
       pub open-fits : k * 73 < 2 ^ 64
       open-fits = slot-fits k open-can
 
-    module _ (e : d ≡ Finish k) where
-      pub finish-can : k < 8
-      finish-can = rw e at can
+    module _ (e : d ≡ Close k) where
+      pub close-can : k < 8
+      close-can = rw e at can
 
-      pub finish-fits : k * 73 < 2 ^ 64
-      finish-fits = slot-fits k finish-can
+      pub close-fits : k * 73 < 2 ^ 64
+      close-fits = slot-fits k close-can
 
-    module _ (e : d ≡ Delete k) where
-      pub delete-can : k < 8
-      delete-can = rw e at can
+    module _ (e : d ≡ DeleteSlot k) where
+      pub delete-slot-can : k < 8
+      delete-slot-can = rw e at can
 
-      pub delete-fits : k * 73 < 2 ^ 64
-      delete-fits = slot-fits k delete-can
+      pub delete-slot-fits : k * 73 < 2 ^ 64
+      delete-slot-fits = slot-fits k delete-slot-can
 
 -- the decisions that change no slot, and those that change no register
 abbrev slotless : List ℕ
@@ -109,46 +109,46 @@ registerless = 0 ∷ 1 ∷ 2 ∷ 3 ∷ 5 ∷ 8 ∷ 9 ∷ 10 ∷ []
 pub slots-kept : (d : Decision) (n : ℕ) (l : List SlotRow) (x : Supplement) (vs : List Value) → OneOf slotless (tagOf the-type d) → l ≡ slotsAfter d n l x vs
 slots-kept (Refuse r) n l x vs o = refl
 slots-kept Reset n l x vs o = absurd (miss slotless 1 tt o)
-slots-kept (Pend k) n l x vs o = absurd (miss slotless 2 tt o)
+slots-kept (Start k) n l x vs o = absurd (miss slotless 2 tt o)
 slots-kept (Open k) n l x vs o = absurd (miss slotless 3 tt o)
 slots-kept (Load k) n l x vs o = refl
-slots-kept (Finish k) n l x vs o = absurd (miss slotless 5 tt o)
-slots-kept (Delete k) n l x vs o = absurd (miss slotless 6 tt o)
-slots-kept (Clear k) n l x vs o = refl
-slots-kept (Show k) n l x vs o = refl
-slots-kept Enumerate n l x vs o = refl
-slots-kept (Query k) n l x vs o = refl
+slots-kept (Close k) n l x vs o = absurd (miss slotless 5 tt o)
+slots-kept (DeleteSlot k) n l x vs o = absurd (miss slotless 6 tt o)
+slots-kept (DeleteKey k) n l x vs o = refl
+slots-kept (GetCard k) n l x vs o = refl
+slots-kept ListSlots n l x vs o = refl
+slots-kept (QuerySlot k) n l x vs o = refl
 
 pub registers-kept : (d : Decision) (m : ℕ) (l : List RegisterRow) (x : Supplement) (vs : List Value) → OneOf registerless (tagOf the-type d) → l ≡ registersAfter d m l x vs
 registers-kept (Refuse r) m l x vs o = refl
 registers-kept Reset m l x vs o = refl
-registers-kept (Pend k) m l x vs o = refl
+registers-kept (Start k) m l x vs o = refl
 registers-kept (Open k) m l x vs o = refl
 registers-kept (Load k) m l x vs o = absurd (miss registerless 4 tt o)
-registers-kept (Finish k) m l x vs o = refl
-registers-kept (Delete k) m l x vs o = absurd (miss registerless 6 tt o)
-registers-kept (Clear k) m l x vs o = absurd (miss registerless 7 tt o)
-registers-kept (Show k) m l x vs o = refl
-registers-kept Enumerate m l x vs o = refl
-registers-kept (Query k) m l x vs o = refl
+registers-kept (Close k) m l x vs o = refl
+registers-kept (DeleteSlot k) m l x vs o = absurd (miss registerless 6 tt o)
+registers-kept (DeleteKey k) m l x vs o = absurd (miss registerless 7 tt o)
+registers-kept (GetCard k) m l x vs o = refl
+registers-kept ListSlots m l x vs o = refl
+registers-kept (QuerySlot k) m l x vs o = refl
 
 module _ (d : Decision) (n : ℕ) (l : List SlotRow) (x : Supplement) (vs : List Value) where
   pub reset-made : d ≡ Reset → (u : List SlotRow) → u ≡ mapped n resetSlot l → u ≡ slotsAfter d n l x vs
   reset-made e u p = rw e p
 
   module _ (k : ℕ) (r : SlotRow) where
-    pub pend-made : d ≡ Pend k → r ≡ pendingRow (x .clock) vs → set l k r ≡ slotsAfter d n l x vs
-    pend-made e p = rw (e, p) refl
+    pub start-made : d ≡ Start k → r ≡ pendingRow (x .clock) vs → set l k r ≡ slotsAfter d n l x vs
+    start-made e p = rw (e, p) refl
 
-    pub delete-made : d ≡ Delete k → r ≡ freeSlot → set l k r ≡ slotsAfter d n l x vs
-    delete-made e p = rw (e, p) refl
+    pub delete-slot-made : d ≡ DeleteSlot k → r ≡ freeSlot → set l k r ≡ slotsAfter d n l x vs
+    delete-slot-made e p = rw (e, p) refl
 
     module _ (z : length l ≡ 8) (y : SlotRow) where
       pub open-made : d ≡ Open k → k < 8 → r ≡ movedSlot Loading (getD l k y) → set l k r ≡ slotsAfter d n l x vs
       open-made e h p = rw (e, p, getD-any l k y freeSlot (omega arith)) refl
 
-      pub finish-made : d ≡ Finish k → k < 8 → r ≡ movedSlot Idle (getD l k y) → set l k r ≡ slotsAfter d n l x vs
-      finish-made e h p = rw (e, p, getD-any l k y freeSlot (omega arith)) refl
+      pub close-made : d ≡ Close k → k < 8 → r ≡ movedSlot Idle (getD l k y) → set l k r ≡ slotsAfter d n l x vs
+      close-made e h p = rw (e, p, getD-any l k y freeSlot (omega arith)) refl
 
 -- change_registers: l are the cards
 module _ (d : Decision) (m : ℕ) (owners : List ℕ) (l : List (List ℕ)) (x : Supplement) (p : Parts) (s : List ℕ) (can : CanChangeRegisters d p m owners (rowsWith l) x s) (k : ℕ) where
@@ -172,31 +172,31 @@ module _ (d : Decision) (m : ℕ) (owners : List ℕ) (l : List (List ℕ)) (x :
     unfolding filledRegister
     load-made c q = rw (e, q) (map-set rowWith l k (inRow (cardOf x vs)))
 
-  module _ (e : d ≡ Delete k) where
-    pub delete-sum : (j : ℕ) → j ≤ 8 → k + j < 2 ^ 64
-    delete-sum j l = let h : k < 8 = (rw e at can) .0 in omega arith
+  module _ (e : d ≡ DeleteSlot k) where
+    pub delete-slot-sum : (j : ℕ) → j ≤ 8 → k + j < 2 ^ 64
+    delete-slot-sum j l = let h : k < 8 = (rw e at can) .0 in omega arith
 
-    pub delete-count : m ≤ 32
-    delete-count = (rw e at can) .1 .0
+    pub delete-slot-count : m ≤ 32
+    delete-slot-count = (rw e at can) .1 .0
 
-    pub delete-cards : length l ≡ 32 → m ≤ length l
-    delete-cards z = let h = delete-count in omega arith
+    pub delete-slot-cards : length l ≡ 32 → m ≤ length l
+    delete-slot-cards z = let h = delete-slot-count in omega arith
 
     pub cards-freed : length owners ≡ 32 → (u : List (List ℕ)) → u ≡ freed (k + 1) (take m owners) l → rowsWith u ≡ registersAfter d m (rowsWith l) x vs
     cards-freed z u q =
-        let h = delete-count in
+        let h = delete-slot-count in
         rw (e, q) (freed-rows (k + 1) (firstText vs) (take m owners) m l ((rw e at can) .1 .1) (length-take-le m owners (omega arith)))
 
-  module _ (e : d ≡ Clear k) where
-    pub clear-can : k < 32
-    clear-can = rw e at can
+  module _ (e : d ≡ DeleteKey k) where
+    pub delete-key-can : k < 32
+    delete-key-can = rw e at can
 
-    pub clear-fits : k * 256 < 2 ^ 64
-    clear-fits = register-fits k clear-can
+    pub delete-key-fits : k * 256 < 2 ^ 64
+    delete-key-fits = register-fits k delete-key-can
 
-    pub clear-made : rowsWith (set l k (replicate 256 0)) ≡ registersAfter d m (rowsWith l) x vs
+    pub delete-key-made : rowsWith (set l k (replicate 256 0)) ≡ registersAfter d m (rowsWith l) x vs
     unfolding freeRegister
-    clear-made = rw e (map-set rowWith l k (replicate 256 0))
+    delete-key-made = rw e (map-set rowWith l k (replicate 256 0))
 
 -- the card that was stored
 pub has-stored : (d : Decision) (x : Supplement) (vs : List Value) (s : Stored) → s .card ≡ inRow (cardOf x vs) → s .length ≡ length (cardOf x vs) → length (cardOf x vs) ≤ 256 → HasStored d s x vs
@@ -205,14 +205,14 @@ has-stored d x vs s e n h k p = (omega (arith, n), (rw e (take-at (cardOf x vs) 
 
 -- no other decision is a load
 module _ (d : Decision) (x : Supplement) (vs : List Value) (s : Stored) where
-  pub delete-stores-none : (j : ℕ) → d ≡ Delete j → HasStored d s x vs
-  delete-stores-none j e k p =
+  pub delete-slot-stores-none : (j : ℕ) → d ≡ DeleteSlot j → HasStored d s x vs
+  delete-slot-stores-none j e k p =
       let a : tagOf the-type d ≡ 4 = rw p refl in
       let b : tagOf the-type d ≡ 6 = rw e refl in
       absurd (omega (arith, a, b))
 
-  pub clear-stores-none : (j : ℕ) → d ≡ Clear j → HasStored d s x vs
-  clear-stores-none j e k p =
+  pub delete-key-stores-none : (j : ℕ) → d ≡ DeleteKey j → HasStored d s x vs
+  delete-key-stores-none j e k p =
       let a : tagOf the-type d ≡ 4 = rw p refl in
       let b : tagOf the-type d ≡ 7 = rw e refl in
       absurd (omega (arith, a, b))

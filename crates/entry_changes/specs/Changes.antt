@@ -16,39 +16,39 @@ use Rattle.row_types.specs.declared.Tables.{Tables}
 use Rattle.row_types.specs.declared.SlotState.the-variants.{Loading, Idle}
 use Rattle.row_index.specs.Found.{AreOwnedBy}
 use Rattle.engine.specs.Requests.{firstText}
-use Rattle.decide_parts.specs.Parts.{pendingRow, cardOf, PendParts, LoadParts}
+use Rattle.decide_parts.specs.Parts.{pendingRow, cardOf, StartParts, LoadParts}
 use Rattle.decide_parts.specs.declared.Parts.{Parts}
 use Rattle.engine.specs.declared.Decision.{Decision}
-use Rattle.engine.specs.declared.Decision.the-variants.{Refuse, Reset, Pend, Open, Load, Finish}
-use Rattle.engine.specs.declared.Decision.the-variants.{Delete, Clear, Show, Enumerate, Query}
+use Rattle.engine.specs.declared.Decision.the-variants.{Refuse, Reset, Start, Open, Load, Close}
+use Rattle.engine.specs.declared.Decision.the-variants.{DeleteSlot, DeleteKey, GetCard, ListSlots, QuerySlot}
 
 -- the slot rows: no refusal changes one, nor do SM?KL, SM?KD and the three commands that only read
 abbrev pub slotsAfter : Decision → ℕ → List SlotRow → Supplement → List Value → List SlotRow
 slotsAfter (Refuse r) n l x vs = l
 slotsAfter Reset n l x vs = mapped n resetSlot l  -- GL?RS: PENDING and LOADING become IDLE
-slotsAfter (Pend k) n l x vs = set l k (pendingRow (x .clock) vs)  -- SM?KC: PENDING, with the clock as TVP
+slotsAfter (Start k) n l x vs = set l k (pendingRow (x .clock) vs)  -- SM?KC: PENDING, with the clock as TVP
 slotsAfter (Open k) n l x vs = set l k (movedSlot Loading (getD l k freeSlot))  -- SM?KR: PENDING becomes LOADING
 slotsAfter (Load k) n l x vs = l
-slotsAfter (Finish k) n l x vs = set l k (movedSlot Idle (getD l k freeSlot))  -- SM?KF: PENDING or LOADING becomes IDLE
-slotsAfter (Delete k) n l x vs = set l k freeSlot  -- SM?KX: the row becomes free
-slotsAfter (Clear k) n l x vs = l
-slotsAfter (Show k) n l x vs = l
-slotsAfter Enumerate n l x vs = l
-slotsAfter (Query k) n l x vs = l
+slotsAfter (Close k) n l x vs = set l k (movedSlot Idle (getD l k freeSlot))  -- SM?KF: PENDING or LOADING becomes IDLE
+slotsAfter (DeleteSlot k) n l x vs = set l k freeSlot  -- SM?KX: the row becomes free
+slotsAfter (DeleteKey k) n l x vs = l
+slotsAfter (GetCard k) n l x vs = l
+slotsAfter ListSlots n l x vs = l
+slotsAfter (QuerySlot k) n l x vs = l
 
 -- the register rows
 abbrev pub registersAfter : Decision → ℕ → List RegisterRow → Supplement → List Value → List RegisterRow
 registersAfter (Refuse r) m l x vs = l
 registersAfter Reset m l x vs = l
-registersAfter (Pend k) m l x vs = l
+registersAfter (Start k) m l x vs = l
 registersAfter (Open k) m l x vs = l
 registersAfter (Load k) m l x vs = set l k (filledRegister (cardOf x vs))  -- SM?KL: the key goes to the register
-registersAfter (Finish k) m l x vs = l
-registersAfter (Delete k) m l x vs = mapped m (withoutSlot (firstText vs)) l  -- SM?KX: just those whose KSL is it
-registersAfter (Clear k) m l x vs = set l k freeRegister  -- SM?KD: that register becomes free
-registersAfter (Show k) m l x vs = l
-registersAfter Enumerate m l x vs = l
-registersAfter (Query k) m l x vs = l
+registersAfter (Close k) m l x vs = l
+registersAfter (DeleteSlot k) m l x vs = mapped m (withoutSlot (firstText vs)) l  -- SM?KX: just those whose KSL is it
+registersAfter (DeleteKey k) m l x vs = set l k freeRegister  -- SM?KD: that register becomes free
+registersAfter (GetCard k) m l x vs = l
+registersAfter ListSlots m l x vs = l
+registersAfter (QuerySlot k) m l x vs = l
 
 -- both tables
 abbrev pub tablesFor : Decision → Tables → Supplement → List Value → Tables
@@ -63,36 +63,36 @@ tablesFor d t x vs = record {
 abbrev pub CanChangeSlots : Decision → Parts → ℕ → List ℕ → Type 0
 CanChangeSlots (Refuse r) p n s = Unit {0}
 CanChangeSlots Reset p n s = n ≤ 8
-CanChangeSlots (Pend k) p n s = (k < 8) × PendParts p s
+CanChangeSlots (Start k) p n s = (k < 8) × StartParts p s
 CanChangeSlots (Open k) p n s = k < 8
 CanChangeSlots (Load k) p n s = Unit {0}
-CanChangeSlots (Finish k) p n s = k < 8
-CanChangeSlots (Delete k) p n s = k < 8
-CanChangeSlots (Clear k) p n s = Unit {0}
-CanChangeSlots (Show k) p n s = Unit {0}
-CanChangeSlots Enumerate p n s = Unit {0}
-CanChangeSlots (Query k) p n s = Unit {0}
+CanChangeSlots (Close k) p n s = k < 8
+CanChangeSlots (DeleteSlot k) p n s = k < 8
+CanChangeSlots (DeleteKey k) p n s = Unit {0}
+CanChangeSlots (GetCard k) p n s = Unit {0}
+CanChangeSlots ListSlots p n s = Unit {0}
+CanChangeSlots (QuerySlot k) p n s = Unit {0}
 
 -- what makes the change of the register rows fit, and of SM?KX that the owners have the slot's number just at its
 -- registers; it is known of each decision on the payload s
 abbrev pub CanChangeRegisters : Decision → Parts → ℕ → List ℕ → List RegisterRow → Supplement → List ℕ → Type 0
 CanChangeRegisters (Refuse r) p m owners l x s = Unit {0}
 CanChangeRegisters Reset p m owners l x s = Unit {0}
-CanChangeRegisters (Pend k) p m owners l x s = Unit {0}
+CanChangeRegisters (Start k) p m owners l x s = Unit {0}
 CanChangeRegisters (Open k) p m owners l x s = Unit {0}
 CanChangeRegisters (Load k) p m owners l x s =
     (k < 32)
     × (LoadParts p s
     × (length (cardOf x (valuesOf s)) ≤ 256))
-CanChangeRegisters (Finish k) p m owners l x s = Unit {0}
-CanChangeRegisters (Delete k) p m owners l x s =
+CanChangeRegisters (Close k) p m owners l x s = Unit {0}
+CanChangeRegisters (DeleteSlot k) p m owners l x s =
     (k < 8)
     × ((m ≤ 32)
     × AreOwnedBy (k + 1) (firstText (valuesOf s)) (take m owners) (take m l))
-CanChangeRegisters (Clear k) p m owners l x s = k < 32
-CanChangeRegisters (Show k) p m owners l x s = Unit {0}
-CanChangeRegisters Enumerate p m owners l x s = Unit {0}
-CanChangeRegisters (Query k) p m owners l x s = Unit {0}
+CanChangeRegisters (DeleteKey k) p m owners l x s = k < 32
+CanChangeRegisters (GetCard k) p m owners l x s = Unit {0}
+CanChangeRegisters ListSlots p m owners l x s = Unit {0}
+CanChangeRegisters (QuerySlot k) p m owners l x s = Unit {0}
 
 -- the card that SM?KL stored, in as much of the space as it is long
 abbrev pub HasStored : Decision → Stored → Supplement → List Value → Type 0

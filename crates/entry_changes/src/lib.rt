@@ -13,13 +13,13 @@ ghost use lib.ListN.{length};
 ghost use Rattle.field_values.specs.Values.{valuesOf};
 ghost use Rattle.card_stored.specs.Stored.{inRow};
 ghost use Rattle.row_index.specs.Lent.{rowsWith};
-ghost use Rattle.decide_parts.specs.Parts.{pendingRow, cardOf, PendParts, LoadParts};
+ghost use Rattle.decide_parts.specs.Parts.{pendingRow, cardOf, StartParts, LoadParts};
 ghost use Rattle.entry_changes.specs.Changes.{slotsAfter, registersAfter};
 ghost use Rattle.entry_changes.specs.Changes.{CanChangeSlots, CanChangeRegisters, HasStored};
 
 // The row that SM?KC makes: PENDING, with the record's KMCID and fingerprint and the clock as TVP.
 fn pending_row(parts: Parts, clock: &[u8], payload: &[u8]) -> SlotRow
-    requires { ⌜ PendParts parts (now payload) ⌝ }
+    requires { ⌜ StartParts parts (now payload) ⌝ }
     ensures { λ r. ⌜ r ≡ pendingRow (now (clock .entry)) (valuesOf (now (payload .entry))) ⌝ }
 {
     slot_rows::filled_slot(
@@ -46,7 +46,7 @@ pub fn change_slots(
     let decision = decided.decision;
     match decision {
         Decision::Reset => slot_tables::reset_slots(slots, slot_count),
-        Decision::Pend(k) => {
+        Decision::Start(k) => {
             after[k] = pending_row(decided.parts, &supplement.clock, payload);
             after
         }
@@ -54,20 +54,20 @@ pub fn change_slots(
             after[k] = slot_rows::moved_slot(SlotState::Loading, slots[k]);
             after
         }
-        Decision::Finish(k) => {
+        Decision::Close(k) => {
             after[k] = slot_rows::moved_slot(SlotState::Idle, slots[k]);
             after
         }
-        Decision::Delete(k) => {
+        Decision::DeleteSlot(k) => {
             after[k] = slot_rows::free_slot();
             after
         }
         Decision::Refuse(_)
         | Decision::Load(_)
-        | Decision::Clear(_)
-        | Decision::Show(_)
-        | Decision::Enumerate
-        | Decision::Query(_) => after,
+        | Decision::DeleteKey(_)
+        | Decision::GetCard(_)
+        | Decision::ListSlots
+        | Decision::QuerySlot(_) => after,
     }
 }
 
@@ -124,21 +124,21 @@ pub fn change_registers(
             cards[k] = card;
             s
         }
-        Decision::Delete(k) => {
+        Decision::DeleteSlot(k) => {
             register_tables::free_owned(cards, owners, register_count, k + 1);
             no_card()
         }
-        Decision::Clear(k) => {
+        Decision::DeleteKey(k) => {
             cards[k] = [0; 256];
             no_card()
         }
         Decision::Refuse(_)
         | Decision::Reset
-        | Decision::Pend(_)
+        | Decision::Start(_)
         | Decision::Open(_)
-        | Decision::Finish(_)
-        | Decision::Show(_)
-        | Decision::Enumerate
-        | Decision::Query(_) => no_card(),
+        | Decision::Close(_)
+        | Decision::GetCard(_)
+        | Decision::ListSlots
+        | Decision::QuerySlot(_) => no_card(),
     }
 }

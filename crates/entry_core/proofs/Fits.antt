@@ -44,7 +44,7 @@ use Rattle.engine.specs.Calls.{callIn}
 use Rattle.engine.specs.Decisions.{decisionOf}
 use Rattle.engine.specs.declared.Refusal.{Refusal}
 use Rattle.engine.specs.declared.Decision.{Decision}
-use Rattle.engine.specs.declared.Decision.the-variants.{Refuse, Reset, Pend, Open, Load, Finish, Delete, Clear, Show, Enumerate, Query}
+use Rattle.engine.specs.declared.Decision.the-variants.{Refuse, Reset, Start, Open, Load, Close, DeleteSlot, DeleteKey, GetCard, ListSlots, QuerySlot}
 use Rattle.engine.proofs.DecisionLaws.{refused-first}
 use Rattle.engine.proofs.RefusalLaws.{isUnwritten, isOwn, Group, of-tables, of-message, of-later, refusal-group, tables-unwritten, message-general}
 use Rattle.engine.proofs.Steps.{is-short}
@@ -58,7 +58,7 @@ use Rattle.engine.proofs.Places.{filled-below}
 use Rattle.decide_counts.proofs.CountLaws.{slots-few, registers-few}
 use Rattle.entry_core.specs.Owners.{AreOwners}
 use Rattle.entry_core.proofs.Front.{getD-front}
-use Rattle.entry_core.proofs.DoneBy.{load-place, pend-place, open-place, finish-place, delete-place, clear-place, show-place, query-place}
+use Rattle.entry_core.proofs.DoneBy.{load-place, start-place, open-place, close-place, delete-slot-place, delete-key-place, get-card-place, query-slot-place}
 use Rattle.entry_core.proofs.Asked.{Asked, asked-of, slot-below, session-below, card-below}
 
 -- a request that is whole has ten bytes at least
@@ -153,10 +153,10 @@ module _ (t : Tables) (x : Supplement) (q : List ℕ) (room : ℕ) (owners : Lis
       let y = asked-of k₀ (Load k) e refl in
       register-place KL y k _ (load-place k₀ k e) (card-below (cardIn (recordIn KL vs)) (k₀ .registers) (y .home))
 
-  delete-low : (k : ℕ) → decisionOf k₀ ≡ Delete k → k < 8
-  delete-low k e =
-      let y = asked-of k₀ (Delete k) e refl in
-      slot-place KX y k _ (delete-place k₀ k e) (slot-below (slotIn KX vs) (k₀ .slots) (y .known))
+  delete-slot-low : (k : ℕ) → decisionOf k₀ ≡ DeleteSlot k → k < 8
+  delete-slot-low k e =
+      let y = asked-of k₀ (DeleteSlot k) e refl in
+      slot-place KX y k _ (delete-slot-place k₀ k e) (slot-below (slotIn KX vs) (k₀ .slots) (y .known))
 
   -- the owners write_refusal the registers under a slot that was found
   owned-at : (o : Command) → Asked k₀ o → (s : List ℕ) (k : ℕ) → slotPlace s (slotRows t) ≡ some k → AreOwnedBy (k + 1) s (take (t .«register_count») owners) (registerRows t)
@@ -165,11 +165,11 @@ module _ (t : Tables) (x : Supplement) (q : List ℕ) (room : ℕ) (owners : Lis
       let e : take (t .«register_count») owners ≡ map (ownerNumber (map keptName (slotRows t))) (registerRows t) = owned (y .counts) (y .sound) in
       rw e (owned-by-number (slotRows t) (and-first (everyRow isSlotSound (slotRows t)) _ (y .sound)) s k p (registerRows t))
 
-  deleted-at : (k : ℕ) → decisionOf k₀ ≡ Delete k → slotPlace (slotIn KX vs) (slotRows t) ≡ some k
-  deleted-at k e = found-at (slotIn KX vs) (slotRows t) k (asked-of k₀ (Delete k) e refl .known) (delete-place k₀ k e)
+  deleted-at : (k : ℕ) → decisionOf k₀ ≡ DeleteSlot k → slotPlace (slotIn KX vs) (slotRows t) ≡ some k
+  deleted-at k e = found-at (slotIn KX vs) (slotRows t) k (asked-of k₀ (DeleteSlot k) e refl .known) (delete-slot-place k₀ k e)
 
-  queried-at : (k : ℕ) → decisionOf k₀ ≡ Query k → slotPlace (slotIn KQ vs) (slotRows t) ≡ some k
-  queried-at k e = found-at (slotIn KQ vs) (slotRows t) k (asked-of k₀ (Query k) e refl .known) (query-place k₀ k e)
+  queried-at : (k : ℕ) → decisionOf k₀ ≡ QuerySlot k → slotPlace (slotIn KQ vs) (slotRows t) ≡ some k
+  queried-at k e = found-at (slotIn KQ vs) (slotRows t) k (asked-of k₀ (QuerySlot k) e refl .known) (query-slot-place k₀ k e)
 
   -- the response is written over the register rows after the decision; the three commands that look at them change none
   abbrev after : Decision → Tables
@@ -179,8 +179,8 @@ module _ (t : Tables) (x : Supplement) (q : List ℕ) (room : ℕ) (owners : Lis
   unfolding recordIn
   can-respond (Refuse r) e p h c w = tells k₀ r e
   can-respond Reset e p h c w = has-room k₀ RS (asked-of k₀ Reset e refl)
-  can-respond (Pend k) e p h c w =
-      let y = asked-of k₀ (Pend k) e refl in
+  can-respond (Start k) e p h c w =
+      let y = asked-of k₀ (Start k) e refl in
       (has-room k₀ KC y, (h, (public-short (firstText vs) (and-first (publicKeyInForm (firstText vs)) true (y .form)), request-short x (y .supplement))))
   can-respond (Open k) e p h c w =
       let y = asked-of k₀ (Open k) e refl in
@@ -188,54 +188,54 @@ module _ (t : Tables) (x : Supplement) (q : List ℕ) (room : ℕ) (owners : Lis
   can-respond (Load k) e p h c w =
       let y = asked-of k₀ (Load k) e refl in
       (has-room k₀ KL y, (w k refl .0, (w k refl .1, load-low k e)))
-  can-respond (Finish k) e p h c w = has-room k₀ KF (asked-of k₀ (Finish k) e refl)
-  can-respond (Delete k) e p h c w = has-room k₀ KX (asked-of k₀ (Delete k) e refl)
-  can-respond (Clear k) e p h c w = has-room k₀ KD (asked-of k₀ (Clear k) e refl)
-  can-respond (Show k) e p h c w =
-      let y = asked-of k₀ (Show k) e refl in
-      (has-room k₀ GA y, register-place GA y k _ (show-place k₀ k e) (filled-below (registerIn vs) (k₀ .registers) (y .filled)))
-  can-respond Enumerate e p h c w =
-      let y = asked-of k₀ Enumerate e refl in
+  can-respond (Close k) e p h c w = has-room k₀ KF (asked-of k₀ (Close k) e refl)
+  can-respond (DeleteSlot k) e p h c w = has-room k₀ KX (asked-of k₀ (DeleteSlot k) e refl)
+  can-respond (DeleteKey k) e p h c w = has-room k₀ KD (asked-of k₀ (DeleteKey k) e refl)
+  can-respond (GetCard k) e p h c w =
+      let y = asked-of k₀ (GetCard k) e refl in
+      (has-room k₀ GA y, register-place GA y k _ (get-card-place k₀ k e) (filled-below (registerIn vs) (k₀ .registers) (y .filled)))
+  can-respond ListSlots e p h c w =
+      let y = asked-of k₀ ListSlots e refl in
       (has-room k₀ GL y, slots-few (t .«slot_count») (t .«register_count») (y .counts))
-  can-respond (Query k) e p h c w =
-      let y = asked-of k₀ (Query k) e refl in
+  can-respond (QuerySlot k) e p h c w =
+      let y = asked-of k₀ (QuerySlot k) e refl in
       let found = queried-at k e in
-      (has-room k₀ KQ y, (slot-place KQ y k _ (query-place k₀ k e) (slot-below (slotIn KQ vs) (k₀ .slots) (y .known)), (registers-few (t .«slot_count») (t .«register_count») (y .counts), rw (kept-at (slotIn KQ vs) (t .«slot_count») (t .slots) k found) (owned-at KQ y (slotIn KQ vs) k found))))
+      (has-room k₀ KQ y, (slot-place KQ y k _ (query-slot-place k₀ k e) (slot-below (slotIn KQ vs) (k₀ .slots) (y .known)), (registers-few (t .«slot_count») (t .«register_count») (y .counts), rw (kept-at (slotIn KQ vs) (t .«slot_count») (t .slots) k found) (owned-at KQ y (slotIn KQ vs) k found))))
 
   pub can-slots : (d : Decision) → decisionOf k₀ ≡ d → (p : Parts) → HasParts d p (payloadOf q) → CanChangeSlots d p (t .«slot_count») (payloadOf q)
   can-slots (Refuse r) e p h = tt
   can-slots Reset e p h = slots-few (t .«slot_count») (t .«register_count») (asked-of k₀ Reset e refl .counts)
-  can-slots (Pend k) e p h =
-      let y = asked-of k₀ (Pend k) e refl in
-      (slot-place KC y k _ (pend-place k₀ k e) (session-below (slotIn KC vs) (k₀ .slots) (y .spot)), h)
+  can-slots (Start k) e p h =
+      let y = asked-of k₀ (Start k) e refl in
+      (slot-place KC y k _ (start-place k₀ k e) (session-below (slotIn KC vs) (k₀ .slots) (y .spot)), h)
   can-slots (Open k) e p h =
       let y = asked-of k₀ (Open k) e refl in
       slot-place KR y k _ (open-place k₀ k e) (slot-below (slotIn KR vs) (k₀ .slots) (y .known))
   can-slots (Load k) e p h = tt
-  can-slots (Finish k) e p h =
-      let y = asked-of k₀ (Finish k) e refl in
-      slot-place KF y k _ (finish-place k₀ k e) (slot-below (slotIn KF vs) (k₀ .slots) (y .known))
-  can-slots (Delete k) e p h = delete-low k e
-  can-slots (Clear k) e p h = tt
-  can-slots (Show k) e p h = tt
-  can-slots Enumerate e p h = tt
-  can-slots (Query k) e p h = tt
+  can-slots (Close k) e p h =
+      let y = asked-of k₀ (Close k) e refl in
+      slot-place KF y k _ (close-place k₀ k e) (slot-below (slotIn KF vs) (k₀ .slots) (y .known))
+  can-slots (DeleteSlot k) e p h = delete-slot-low k e
+  can-slots (DeleteKey k) e p h = tt
+  can-slots (GetCard k) e p h = tt
+  can-slots ListSlots e p h = tt
+  can-slots (QuerySlot k) e p h = tt
 
   pub can-registers : (d : Decision) → decisionOf k₀ ≡ d → (p : Parts) → HasParts d p (payloadOf q) → CanChangeRegisters d p (t .«register_count») owners (t .registers) x (payloadOf q)
   unfolding slotIn
   can-registers (Refuse r) e p h = tt
   can-registers Reset e p h = tt
-  can-registers (Pend k) e p h = tt
+  can-registers (Start k) e p h = tt
   can-registers (Open k) e p h = tt
   can-registers (Load k) e p h =
       (load-low k e, (h, loaded-short k₀ k e))
-  can-registers (Finish k) e p h = tt
-  can-registers (Delete k) e p h =
-      let y = asked-of k₀ (Delete k) e refl in
-      (delete-low k e, (registers-few (t .«slot_count») (t .«register_count») (y .counts), owned-at KX y (slotIn KX vs) k (deleted-at k e)))
-  can-registers (Clear k) e p h =
-      let y = asked-of k₀ (Clear k) e refl in
-      register-place KD y k _ (clear-place k₀ k e) (filled-below (registerIn vs) (k₀ .registers) (y .filled))
-  can-registers (Show k) e p h = tt
-  can-registers Enumerate e p h = tt
-  can-registers (Query k) e p h = tt
+  can-registers (Close k) e p h = tt
+  can-registers (DeleteSlot k) e p h =
+      let y = asked-of k₀ (DeleteSlot k) e refl in
+      (delete-slot-low k e, (registers-few (t .«slot_count») (t .«register_count») (y .counts), owned-at KX y (slotIn KX vs) k (deleted-at k e)))
+  can-registers (DeleteKey k) e p h =
+      let y = asked-of k₀ (DeleteKey k) e refl in
+      register-place KD y k _ (delete-key-place k₀ k e) (filled-below (registerIn vs) (k₀ .registers) (y .filled))
+  can-registers (GetCard k) e p h = tt
+  can-registers ListSlots e p h = tt
+  can-registers (QuerySlot k) e p h = tt

@@ -24,7 +24,7 @@ use Rattle.engine.specs.Decisions.{decisionOf}
 use Rattle.decide_parts.specs.Parts.{IsDecided}
 use Rattle.decide_parts.specs.declared.Decided.{Decided}
 use Rattle.engine.specs.declared.Decision.{Decision}
-use Rattle.engine.specs.declared.Decision.the-variants.{Refuse, Reset, Pend, Open, Load, Finish, Delete, Clear, Show, Enumerate, Query}
+use Rattle.engine.specs.declared.Decision.the-variants.{Refuse, Reset, Start, Open, Load, Close, DeleteSlot, DeleteKey, GetCard, ListSlots, QuerySlot}
 use Rattle.engine.specs.declared.Outcome.{Outcome}
 use Rattle.response_requests.specs.Responding.{outcomeFor, responseFor, CanRespond}
 use Rattle.entry_changes.specs.Changes.{slotsAfter, registersAfter, CanChangeSlots, CanChangeRegisters, HasStored}
@@ -38,15 +38,15 @@ same-response : (d : Decision) (slots : List SlotRow) (n : ℕ) (R : List Regist
     → responseFor d (tablesWith slots n (registersAfter d m R x vs) m) x q ≡ responseFor d (tablesWith slots n R m) x q
 same-response (Refuse r) slots n R m x vs q = refl
 same-response Reset slots n R m x vs q = refl
-same-response (Pend k) slots n R m x vs q = refl
+same-response (Start k) slots n R m x vs q = refl
 same-response (Open k) slots n R m x vs q = refl
 same-response (Load k) slots n R m x vs q = refl
-same-response (Finish k) slots n R m x vs q = refl
-same-response (Delete k) slots n R m x vs q = refl
-same-response (Clear k) slots n R m x vs q = refl
-same-response (Show k) slots n R m x vs q = refl
-same-response Enumerate slots n R m x vs q = refl
-same-response (Query k) slots n R m x vs q = refl
+same-response (Close k) slots n R m x vs q = refl
+same-response (DeleteSlot k) slots n R m x vs q = refl
+same-response (DeleteKey k) slots n R m x vs q = refl
+same-response (GetCard k) slots n R m x vs q = refl
+same-response ListSlots slots n R m x vs q = refl
+same-response (QuerySlot k) slots n R m x vs q = refl
 
 -- handle_cards: R are the rows with the lent cards, owners the numbers of their owners
 module _ (slots : List SlotRow) (n : ℕ) (R : List RegisterRow) (m : ℕ) (x : Supplement) (q : List ℕ) (room : ℕ) (g : Decided) (is : IsDecided g (decisionOf (callIn (tablesWith slots n R m) x q room)) (payloadOf q)) where

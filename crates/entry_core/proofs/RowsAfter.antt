@@ -17,12 +17,12 @@ use Rattle.engine.specs.Answers.{Answer, slotsMoved, slotsPending, slotsWithout
 use Rattle.engine.specs.Calls.{callIn, tablesAfter}
 use Rattle.engine.specs.Decisions.{decisionOf}
 use Rattle.engine.specs.declared.Decision.{Decision}
-use Rattle.engine.specs.declared.Decision.the-variants.{Refuse, Reset, Pend, Open, Load, Finish, Delete, Clear, Show, Enumerate, Query}
+use Rattle.engine.specs.declared.Decision.the-variants.{Refuse, Reset, Start, Open, Load, Close, DeleteSlot, DeleteKey, GetCard, ListSlots, QuerySlot}
 use Rattle.engine.proofs.DecisionLaws.{commandFor, refused-answer}
 use Rattle.engine.proofs.Places.{filled-below}
 use Rattle.entry_changes.specs.Changes.{slotsAfter, registersAfter, tablesFor}
 use Rattle.entry_core.proofs.Front.{set-front, getD-front}
-use Rattle.entry_core.proofs.DoneBy.{effect-of, load-place, pend-place, open-place, finish-place, delete-place, clear-place}
+use Rattle.entry_core.proofs.DoneBy.{effect-of, load-place, start-place, open-place, close-place, delete-slot-place, delete-key-place}
 use Rattle.entry_core.proofs.Asked.{asked-of, slot-below, session-below, card-below}
 
 module _ (t : Tables) (x : Supplement) (q : List ℕ) (room : ℕ) where
@@ -63,26 +63,26 @@ module _ (t : Tables) (x : Supplement) (q : List ℕ) (room : ℕ) where
   unfolding refused answered listed recordIn slotIn slotsPending slotsWithout
   tables-are (Refuse r) e = rw (refused-answer c r e) (same-tables (refused c r) (Refuse r) slots-kept registers-kept)
   tables-are Reset e = same-tables (done Reset) Reset refl registers-kept ∙ ap (tablesAfter t) (effect-of c Reset e refl)
-  tables-are (Pend k) e =
-      let w = pend-place c k e in
-      let h : k < length (take n (t .slots)) = rw (← w) (session-below (slotIn KC vs) (c .slots) (asked-of c (Pend k) e refl .spot)) in
-      same-tables (done (Pend k)) (Pend k) (rw w (set-front n (t .slots) k _ h)) registers-kept ∙ ap (tablesAfter t) (effect-of c (Pend k) e refl)
+  tables-are (Start k) e =
+      let w = start-place c k e in
+      let h : k < length (take n (t .slots)) = rw (← w) (session-below (slotIn KC vs) (c .slots) (asked-of c (Start k) e refl .spot)) in
+      same-tables (done (Start k)) (Start k) (rw w (set-front n (t .slots) k _ h)) registers-kept ∙ ap (tablesAfter t) (effect-of c (Start k) e refl)
   tables-are (Open k) e =
       same-tables (done (Open k)) (Open k) (moved _ (slotIn KR vs) k (open-place c k e) (asked-of c (Open k) e refl .known)) registers-kept ∙ ap (tablesAfter t) (effect-of c (Open k) e refl)
   tables-are (Load k) e =
       let w = load-place c k e in
       let h : k < length (take m (t .registers)) = rw (← w) (card-below _ (c .registers) (asked-of c (Load k) e refl .home)) in
       same-tables (done (Load k)) (Load k) slots-kept (rw w (set-front m (t .registers) k _ h)) ∙ ap (tablesAfter t) (effect-of c (Load k) e refl)
-  tables-are (Finish k) e =
-      same-tables (done (Finish k)) (Finish k) (moved _ (slotIn KF vs) k (finish-place c k e) (asked-of c (Finish k) e refl .known)) registers-kept ∙ ap (tablesAfter t) (effect-of c (Finish k) e refl)
-  tables-are (Delete k) e =
-      let w = delete-place c k e in
-      let h : k < length (take n (t .slots)) = rw (← w) (slot-below (slotIn KX vs) (c .slots) (asked-of c (Delete k) e refl .known)) in
-      same-tables (done (Delete k)) (Delete k) (rw w (set-front n (t .slots) k freeSlot h)) refl ∙ ap (tablesAfter t) (effect-of c (Delete k) e refl)
-  tables-are (Clear k) e =
-      let w = clear-place c k e in
-      let h : k < length (take m (t .registers)) = rw (← w) (filled-below (registerIn vs) (c .registers) (asked-of c (Clear k) e refl .filled)) in
-      same-tables (done (Clear k)) (Clear k) slots-kept (rw w (set-front m (t .registers) k freeRegister h)) ∙ ap (tablesAfter t) (effect-of c (Clear k) e refl)
-  tables-are (Show k) e = same-tables (done (Show k)) (Show k) slots-kept registers-kept ∙ ap (tablesAfter t) (effect-of c (Show k) e refl)
-  tables-are Enumerate e = same-tables (done Enumerate) Enumerate slots-kept registers-kept ∙ ap (tablesAfter t) (effect-of c Enumerate e refl)
-  tables-are (Query k) e = same-tables (done (Query k)) (Query k) slots-kept registers-kept ∙ ap (tablesAfter t) (effect-of c (Query k) e refl)
+  tables-are (Close k) e =
+      same-tables (done (Close k)) (Close k) (moved _ (slotIn KF vs) k (close-place c k e) (asked-of c (Close k) e refl .known)) registers-kept ∙ ap (tablesAfter t) (effect-of c (Close k) e refl)
+  tables-are (DeleteSlot k) e =
+      let w = delete-slot-place c k e in
+      let h : k < length (take n (t .slots)) = rw (← w) (slot-below (slotIn KX vs) (c .slots) (asked-of c (DeleteSlot k) e refl .known)) in
+      same-tables (done (DeleteSlot k)) (DeleteSlot k) (rw w (set-front n (t .slots) k freeSlot h)) refl ∙ ap (tablesAfter t) (effect-of c (DeleteSlot k) e refl)
+  tables-are (DeleteKey k) e =
+      let w = delete-key-place c k e in
+      let h : k < length (take m (t .registers)) = rw (← w) (filled-below (registerIn vs) (c .registers) (asked-of c (DeleteKey k) e refl .filled)) in
+      same-tables (done (DeleteKey k)) (DeleteKey k) slots-kept (rw w (set-front m (t .registers) k freeRegister h)) ∙ ap (tablesAfter t) (effect-of c (DeleteKey k) e refl)
+  tables-are (GetCard k) e = same-tables (done (GetCard k)) (GetCard k) slots-kept registers-kept ∙ ap (tablesAfter t) (effect-of c (GetCard k) e refl)
+  tables-are ListSlots e = same-tables (done ListSlots) ListSlots slots-kept registers-kept ∙ ap (tablesAfter t) (effect-of c ListSlots e refl)
+  tables-are (QuerySlot k) e = same-tables (done (QuerySlot k)) (QuerySlot k) slots-kept registers-kept ∙ ap (tablesAfter t) (effect-of c (QuerySlot k) e refl)

@@ -10,7 +10,7 @@ use Rattle.history.proofs.Laws.{Clears}
 use Rattle.history.proofs.Theorem.{live-since}
 use Rattle.history.specs.History.{Since}
 use Rattle.history.specs.Model.{Tables, kc, kr, kl, kf, kx, kd, rs, done, loaded, Item, _⇒_, key, vacant, Register, used, loading, idle, empty, slotRow, registerRow}
-use Rattle.history.specs.Step.{Step, finishes}
+use Rattle.history.specs.Step.{Step, closes}
 use Rattle.history.proofs.Sound.{Sound}
 use Rattle.history.specs.Demand3.{LoadInto, Load, Deletion, Opens, Ends, closed, restarted, deleted, was-reset, InSession, StandsIn, Demand3, Live, HasLive}
 
@@ -135,4 +135,4 @@ module _ (s g r c : List ℕ) where
 
 -- no step is an accepted SM?KF of a slot that is IDLE
 pub closed-twice : (s : List ℕ) (i : ℕ) (t t′ : Tables) → Sound t → slotRow t i ≡ used s idle → Step t (kf s ⇒ done) t′ → ⊥
-closed-twice s i t t′ σ e (finishes u j a o q) = let z : j ≡ i = σ .names j i s a idle q e in o (cc)
+closed-twice s i t t′ σ e (closes u j a o q) = let z : j ≡ i = σ .names j i s a idle q e in o (cc)

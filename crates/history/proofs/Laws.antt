@@ -9,7 +9,7 @@ use lib.Seq.{getD-set-same}
 use Rattle.byte_strings.proofs.Flags.{nope}
 use Rattle.byte_strings.proofs.StringLaws.{same-self}
 use Rattle.history.proofs.Rows.{clash, Stored, new, old, stored}
-use Rattle.history.specs.Step.{SessionPlace, own, StorePlace, held, spare, Step, refuses, reads, starts, responds, loads, finishes, deletes, clears, resets}
+use Rattle.history.specs.Step.{SessionPlace, own, StorePlace, held, spare, Step, refuses, reads, starts, opens, loads, closes, deletes-slot, deletes-key, resets}
 use Rattle.history.proofs.Sound.{Sound, sound-step, used-within, key-within, spot-row, drop-key, drop-kept, drop-row, stop-row, stop-used}
 use Rattle.history.specs.Demand3.{LoadInto, Load, Deletion, Opens, Ends, closed, restarted, deleted, was-reset, StandsIn}
 use Rattle.history.specs.Model.{pending, loading, idle, Slot, free, used, vacant, key, Tables, kc, kr, kl, kf, kx, kd, rs, done, loaded, Item, _⇒_, slotRow, putSlot, putRegister, dropKey, dropSlot, reset}
@@ -45,11 +45,11 @@ one-key t σ g r (suc i) (suc j) s c s′ c′ p q = let k = σ .keys i j g r s 
 -- an accepted deletion of a slot leaves no key under it, and one of a register none in it
 kx-takes : (t t′ : Tables) (s : List ℕ) → Step t (kx s ⇒ done) t′ → (g r c : List ℕ) (n : ℕ) → ¬ StandsIn t′ g r n s c
 unfolding dropSlot
-kx-takes t t′ s (deletes s′ i a q) g r c zero h = nope (cc)
-kx-takes t t′ s (deletes s′ i a q) g r c (suc j) h = clash (same-self s) (drop-key s (getD (t .registers) j vacant) g r s c (rw drop-row at h) .1)
+kx-takes t t′ s (deletes-slot s′ i a q) g r c zero h = nope (cc)
+kx-takes t t′ s (deletes-slot s′ i a q) g r c (suc j) h = clash (same-self s) (drop-key s (getD (t .registers) j vacant) g r s c (rw drop-row at h) .1)
 
 kd-takes : (t t′ : Tables) (n : ℕ) → Step t (kd n ⇒ done) t′ → (g r s c : List ℕ) → ¬ StandsIn t′ g r n s c
-kd-takes t t′ n (clears i g′ r′ u d q) g r s c h =
+kd-takes t t′ n (deletes-key i g′ r′ u d q) g r s c h =
     let y = getD-set-same (t .registers) i vacant vacant (key-within (t .registers) i g′ r′ u d q) in nope (cc)
 
 -- what takes a key away that stands in n under s
@@ -72,18 +72,18 @@ unfolding dropSlot reset
 key-from t ι t′ (refuses e′) g r n s c h = inr (h, λ l. nope (cc))
 key-from t ι t′ reads g r n s c h = inr (h, λ l. nope (cc))
 key-from t ι t′ (starts u i b p) g r n s c h = inr (h, λ l. nope (cc))
-key-from t ι t′ (responds u i q) g r n s c h = inr (h, λ l. nope (cc))
+key-from t ι t′ (opens u i q) g r n s c h = inr (h, λ l. nope (cc))
 key-from t ι t′ (loads u g′ r′ d k i f b p) g r zero s c h = nope (cc)
 key-from t ι t′ (loads u g′ r′ d k i f b p) g r (suc j) s c h = go (stored vacant (t .registers) i (key g′ r′ u d) j b)
   where
     go : Stored vacant (t .registers) i (key g′ r′ u d) j → LoadInto g r (suc j) s c (kl u g′ r′ ⇒ loaded (suc i) d) ⊎ (StandsIn t g r (suc j) s c × (¬ LoadInto g r (suc j) s c (kl u g′ r′ ⇒ loaded (suc i) d)))
     go (new x y) = inl cc
     go (old x y) = inr (cc, λ l. let z : suc i ≡ suc j = cc in x (omega arith))
-key-from t ι t′ (finishes u i a o q) g r n s c h = inr (h, λ l. nope (cc))
-key-from t ι t′ (deletes u i a q) g r zero s c h = nope (cc)
-key-from t ι t′ (deletes u i a q) g r (suc j) s c h = inr (drop-key u (getD (t .registers) j vacant) g r s c (rw drop-row at h) .0, λ l. nope (cc))
-key-from t ι t′ (clears i g′ r′ u d q) g r zero s c h = nope (cc)
-key-from t ι t′ (clears i g′ r′ u d q) g r (suc j) s c h = go (stored vacant (t .registers) i vacant j (key-within (t .registers) i g′ r′ u d q))
+key-from t ι t′ (closes u i a o q) g r n s c h = inr (h, λ l. nope (cc))
+key-from t ι t′ (deletes-slot u i a q) g r zero s c h = nope (cc)
+key-from t ι t′ (deletes-slot u i a q) g r (suc j) s c h = inr (drop-key u (getD (t .registers) j vacant) g r s c (rw drop-row at h) .0, λ l. nope (cc))
+key-from t ι t′ (deletes-key i g′ r′ u d q) g r zero s c h = nope (cc)
+key-from t ι t′ (deletes-key i g′ r′ u d q) g r (suc j) s c h = go (stored vacant (t .registers) i vacant j (key-within (t .registers) i g′ r′ u d q))
   where
     go : Stored vacant (t .registers) i vacant j → LoadInto g r (suc j) s c (kd (suc i) ⇒ done) ⊎ (StandsIn t g r (suc j) s c × (¬ LoadInto g r (suc j) s c (kd (suc i) ⇒ done)))
     go (new x y) = nope (cc)
@@ -105,7 +105,7 @@ unfolding dropSlot reset
 key-keeps t ι t′ (refuses e′) g r n s c h k = h
 key-keeps t ι t′ reads g r n s c h k = h
 key-keeps t ι t′ (starts u i b p) g r n s c h k = h
-key-keeps t ι t′ (responds u i q) g r n s c h k = h
+key-keeps t ι t′ (opens u i q) g r n s c h k = h
 key-keeps t ι t′ (loads u g′ r′ d k′ i f b p) g r zero s c h k = h
 key-keeps t ι t′ (loads u g′ r′ d k′ i f b p) g r (suc j) s c h k = go (stored vacant (t .registers) i (key g′ r′ u d) j b) p
   where
@@ -116,12 +116,12 @@ key-keeps t ι t′ (loads u g′ r′ d k′ i f b p) g r (suc j) s c h k = go 
         absurd (k (inl (record { number = suc i; slot = u; card = d; is = cc })))
     go (new x y) (spare q m) = cc
     go (old x y) p = cc
-key-keeps t ι t′ (finishes u i a o q) g r n s c h k = h
-key-keeps t ι t′ (deletes u i a q) g r zero s c h k = h
-key-keeps t ι t′ (deletes u i a q) g r (suc j) s c h k =
+key-keeps t ι t′ (closes u i a o q) g r n s c h k = h
+key-keeps t ι t′ (deletes-slot u i a q) g r zero s c h k = h
+key-keeps t ι t′ (deletes-slot u i a q) g r (suc j) s c h k =
     drop-row u (t .registers) j ∙ ap (dropKey u) h ∙ drop-kept u g r s c (λ z. k (inr (inl (cc))))
-key-keeps t ι t′ (clears i g′ r′ u d q) g r zero s c h k = h
-key-keeps t ι t′ (clears i g′ r′ u d q) g r (suc j) s c h k = go (stored vacant (t .registers) i vacant j (key-within (t .registers) i g′ r′ u d q))
+key-keeps t ι t′ (deletes-key i g′ r′ u d q) g r zero s c h k = h
+key-keeps t ι t′ (deletes-key i g′ r′ u d q) g r (suc j) s c h k = go (stored vacant (t .registers) i vacant j (key-within (t .registers) i g′ r′ u d q))
   where
     go : Stored vacant (t .registers) i vacant j → StandsIn (putRegister t i vacant) g r (suc j) s c
     go (new x y) = absurd (k (inr (inr (cc))))
@@ -130,8 +130,8 @@ key-keeps t ι t′ resets g r n s c h k = h
 
 -- SESSIONS
 -- after a store of the row of s that is not LOADING no session of s is open
-closes : (t : Tables) → Sound t → (s : List ℕ) (i : ℕ) → i < length (t .slots) → SessionPlace t s i → (v : Slot) → v ≢ used s loading → ¬ Open s (putSlot t i v)
-closes t σ s i b p v n h = go (stored free (t .slots) i v (h .row) b)
+shuts : (t : Tables) → Sound t → (s : List ℕ) (i : ℕ) → i < length (t .slots) → SessionPlace t s i → (v : Slot) → v ≢ used s loading → ¬ Open s (putSlot t i v)
+shuts t σ s i b p v n h = go (stored free (t .slots) i v (h .row) b)
   where
     go : Stored free (t .slots) i v (h .row) → ⊥
     go (new x y) = let w = h .is in n (cc)
@@ -139,14 +139,14 @@ closes t σ s i b p v n h = go (stored free (t .slots) i v (h .row) b)
 
 -- SM?KC, SM?KF and SM?KX of s and GL?RS, each accepted, leave none open
 kc-ends : (t t′ : Tables) (s : List ℕ) → Step t (kc s ⇒ done) t′ → Sound t → ¬ Open s t′
-kc-ends t t′ s (starts s′ i b p) σ h = closes t σ s i b p _ (λ q. nope (cc)) h
+kc-ends t t′ s (starts s′ i b p) σ h = shuts t σ s i b p _ (λ q. nope (cc)) h
 
 kf-ends : (t t′ : Tables) (s : List ℕ) → Step t (kf s ⇒ done) t′ → Sound t → ¬ Open s t′
-kf-ends t t′ s (finishes s′ i a o q) σ h = closes t σ s i (used-within (t .slots) i s a q) (own a q) _ (λ w. nope (cc)) h
+kf-ends t t′ s (closes s′ i a o q) σ h = shuts t σ s i (used-within (t .slots) i s a q) (own a q) _ (λ w. nope (cc)) h
 
 kx-ends : (t t′ : Tables) (s : List ℕ) → Step t (kx s ⇒ done) t′ → Sound t → ¬ Open s t′
 unfolding dropSlot
-kx-ends t t′ s (deletes s′ i a q) σ h = closes t σ s i (used-within (t .slots) i s a q) (own a q) free (λ w. nope (cc)) (record { row = h .row; is = h .is })
+kx-ends t t′ s (deletes-slot s′ i a q) σ h = shuts t σ s i (used-within (t .slots) i s a q) (own a q) free (λ w. nope (cc)) (record { row = h .row; is = h .is })
 
 rs-ends : (t t′ : Tables) (s : List ℕ) → Step t (rs ⇒ done) t′ → ¬ Open s t′
 unfolding reset
@@ -176,23 +176,23 @@ open-from t ι t′ (starts u i b p) s h = go (opened-by t s i _ b h)
     go : (used u pending ≡ used s loading) ⊎ Open s t → Opens s (kc u ⇒ done) ⊎ Open s t
     go (inl e) = nope (cc)
     go (inr o) = inr o
-open-from t ι t′ (responds u i q) s h = go (opened-by t s i _ (used-within (t .slots) i u _ q) h)
+open-from t ι t′ (opens u i q) s h = go (opened-by t s i _ (used-within (t .slots) i u _ q) h)
   where
     go : (used u loading ≡ used s loading) ⊎ Open s t → Opens s (kr u ⇒ done) ⊎ Open s t
     go (inl e) = inl (cc)
     go (inr o) = inr o
 open-from t ι t′ (loads u g r c k i f b p) s h = inr (record { row = h .row; is = h .is })
-open-from t ι t′ (finishes u i a o q) s h = go (opened-by t s i _ (used-within (t .slots) i u a q) h)
+open-from t ι t′ (closes u i a o q) s h = go (opened-by t s i _ (used-within (t .slots) i u a q) h)
   where
     go : (used u idle ≡ used s loading) ⊎ Open s t → Opens s (kf u ⇒ done) ⊎ Open s t
     go (inl e) = nope (cc)
     go (inr o) = inr o
-open-from t ι t′ (deletes u i a q) s h = go (opened-by t s i free (used-within (t .slots) i u a q) (record { row = h .row; is = h .is }))
+open-from t ι t′ (deletes-slot u i a q) s h = go (opened-by t s i free (used-within (t .slots) i u a q) (record { row = h .row; is = h .is }))
   where
     go : (free ≡ used s loading) ⊎ Open s t → Opens s (kx u ⇒ done) ⊎ Open s t
     go (inl e) = nope (cc)
     go (inr o) = inr o
-open-from t ι t′ (clears i g r u c q) s h = inr (record { row = h .row; is = h .is })
+open-from t ι t′ (deletes-key i g r u c q) s h = inr (record { row = h .row; is = h .is })
 open-from t ι t′ resets s h = let w = stop-used _ s loading (rw stop-row at (h .is)) .0 in nope (cc)
 
 -- the step opened it, or it was open before and the step does not end it

@@ -9,7 +9,7 @@ use Rattle.byte_strings.proofs.Flags.{nope}
 use Rattle.byte_strings.specs.Strings.{sameBytes}
 use Rattle.byte_strings.proofs.StringLaws.{same-equal, same-self}
 use Rattle.history.proofs.Rows.{clash, within, Stored, new, old, stored, getD-none}
-use Rattle.history.specs.Step.{SessionPlace, own, fresh, StorePlace, held, spare, Step, refuses, reads, starts, responds, loads, finishes, deletes, clears, resets}
+use Rattle.history.specs.Step.{SessionPlace, own, fresh, StorePlace, held, spare, Step, refuses, reads, starts, opens, loads, closes, deletes-slot, deletes-key, resets}
 use Rattle.history.specs.Model.{State, idle, Slot, free, used, Register, vacant, key, Tables, Item, slotRow, putSlot, putRegister, dropKey, dropSlot, stopped, reset, empty}
 
 -- no two rows have one name
@@ -160,13 +160,13 @@ unfolding dropSlot reset
 sound-step t ι t′ (refuses e′) σ = σ
 sound-step t ι t′ reads σ = σ
 sound-step t ι t′ (starts s i h p) σ = sound-put t σ s i _ h p
-sound-step t ι t′ (responds s i q) σ = sound-put t σ s i _ (used-within (t .slots) i s _ q) (own _ q)
+sound-step t ι t′ (opens s i q) σ = sound-put t σ s i _ (used-within (t .slots) i s _ q) (own _ q)
 sound-step t ι t′ (loads s g r c k i f h p) σ = sound-store t σ i _ h (λ g′ r′ u d e. (under u (cc), λ j u′ d′ w. home-row t (σ .keys) g r i p j u′ d′ (cc)))
   where
     under : (u : List ℕ) → s ≡ u → Known (t .slots) u
     under u z = subst (Known (t .slots)) z (known-of (t .slots) k s _ f)
-sound-step t ι t′ (finishes s i a o q) σ = sound-put t σ s i _ (used-within (t .slots) i s _ q) (own _ q)
-sound-step t ι t′ (deletes s i a q) σ = record {
+sound-step t ι t′ (closes s i a o q) σ = sound-put t σ s i _ (used-within (t .slots) i s _ q) (own _ q)
+sound-step t ι t′ (deletes-slot s i a q) σ = record {
   names = names-free (t .slots) (σ .names) i (used-within (t .slots) i s a q);
   keys = keys-drop s (t .registers) (σ .keys);
   known = λ j g r u c w. let m = drop-key s _ g r u c (rw drop-row at w) in go u (m .1) (σ .known j g r u c (m .0));
@@ -178,7 +178,7 @@ sound-step t ι t′ (deletes s i a q) σ = record {
         at-row : Stored free (t .slots) i free (k .row) → Known (set (t .slots) i free) u
         at-row (new x y) = let z : s ≡ u = cc in absurd (clash (same-self s) (rw (← z) at n))
         at-row (old x y) = record { row = k .row; state = k .state; is = cc }
-sound-step t ι t′ (clears i g r s c q) σ = sound-store t σ i _ (key-within (t .registers) i g r s c q) (λ g′ r′ u d e. nope (cc))
+sound-step t ι t′ (deletes-key i g r s c q) σ = sound-store t σ i _ (key-within (t .registers) i g r s c q) (λ g′ r′ u d e. nope (cc))
 sound-step t ι t′ resets σ = record {
   names = λ i j s a b p q. let m = stop-used _ s a (rw stop-row at p) .1 in let n = stop-used _ s b (rw stop-row at q) .1 in σ .names i j s (m .0) (n .0) (m .1) (n .1);
   keys = σ .keys;

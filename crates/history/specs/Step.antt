@@ -53,13 +53,13 @@ pub data Step (t : Tables) : Item → Tables → Type 0 where
   reads : Step t (other ⇒ done) t
   starts : (s : List ℕ) (i : ℕ) → i < length (t .slots) → SessionPlace t s i
       → Step t (kc s ⇒ done) (putSlot t i (used s pending))
-  responds : (s : List ℕ) (i : ℕ) → slotRow t i ≡ used s pending
+  opens : (s : List ℕ) (i : ℕ) → slotRow t i ≡ used s pending
       → Step t (kr s ⇒ done) (putSlot t i (used s loading))
   loads : (s g r c : List ℕ) (k i : ℕ) → slotRow t k ≡ used s loading → i < length (t .registers) → StorePlace t g r i
       → Step t (kl s g r ⇒ loaded (suc i) c) (putRegister t i (key g r s c))
-  finishes : (s : List ℕ) (i : ℕ) (a : State) → a ≢ idle → slotRow t i ≡ used s a
+  closes : (s : List ℕ) (i : ℕ) (a : State) → a ≢ idle → slotRow t i ≡ used s a
       → Step t (kf s ⇒ done) (putSlot t i (used s idle))
-  deletes : (s : List ℕ) (i : ℕ) (a : State) → slotRow t i ≡ used s a → Step t (kx s ⇒ done) (dropSlot t s i)
-  clears : (i : ℕ) (g r s c : List ℕ) → getD (t .registers) i vacant ≡ key g r s c
+  deletes-slot : (s : List ℕ) (i : ℕ) (a : State) → slotRow t i ≡ used s a → Step t (kx s ⇒ done) (dropSlot t s i)
+  deletes-key : (i : ℕ) (g r s c : List ℕ) → getD (t .registers) i vacant ≡ key g r s c
       → Step t (kd (suc i) ⇒ done) (putRegister t i vacant)
   resets : Step t (rs ⇒ done) (reset t)

@@ -17,7 +17,7 @@ one-field {d} {e} {a} {b} x w = then w (none e b)
 pub two-fields : {d e f : List ℕ} {a b c : ℕ} (x y : Value) → Wrote d a (fieldBytes x) e b → Wrote e b (fieldBytes y) f c → Wrote d a (payloadBytes (x ∷ y ∷ [])) f c
 two-fields {d} {e} {f} {a} {b} {c} x y v w = then v (one-field y w)
 
--- put_pending: after the KMCID v, the first n bytes of the request's space
+-- put_started: after the KMCID v, the first n bytes of the request's space
 module _ (a b n : ℕ) (v row : List ℕ) (i : b ≡ a + length v + 2) (l : length v ≤ 40) (z : length row ≡ 700) where
   pub request-fits : (m k : ℕ) → a + 744 ≤ m → k ≡ m → b + length (take n row) + 2 ≤ k
   request-fits m k h e = omega (arith, take-le n row)

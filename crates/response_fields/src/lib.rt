@@ -10,7 +10,7 @@ ghost use Rattle.row_types.specs.Lists.{trimmed};
 ghost use Rattle.row_types.specs.Supplements.{loadRequest};
 
 // SM?KC: writes the KMCID and the load request, and answers the place after them.
-pub fn put_pending(dst: &mut [u8], at: usize, kmcid: &[u8], supplement: Supplement) -> usize
+pub fn put_started(dst: &mut [u8], at: usize, kmcid: &[u8], supplement: Supplement) -> usize
     requires { ⌜ (length (now kmcid) ≤ 40) × (supplement .«request_length» ≤ 700) × (at + 744 ≤ length (now dst)) ⌝ }
     ensures { λ r. ⌜ Writes dst at
         (payloadBytes (string (now (kmcid .entry)) ∷ string (loadRequest supplement) ∷ [])) r ⌝ }

@@ -34,7 +34,7 @@ use Rattle.engine.specs.Requests.{fieldsIn}
 use Rattle.engine.specs.Refusals.{refusal}
 use Rattle.engine.specs.Answers.{accepted, responseOf, refusalReply}
 use Rattle.engine.specs.declared.Decision.{Decision}
-use Rattle.engine.specs.declared.Decision.the-variants.{Refuse, Reset, Pend, Open, Load, Finish, Delete, Clear, Show, Enumerate, Query}
+use Rattle.engine.specs.declared.Decision.the-variants.{Refuse, Reset, Start, Open, Load, Close, DeleteSlot, DeleteKey, GetCard, ListSlots, QuerySlot}
 use Rattle.engine.specs.declared.Refusal.{Refusal}
 use Rattle.engine.specs.declared.Outcome.{Outcome}
 use Rattle.engine.specs.declared.Outcome.the-variants.{Done}
@@ -53,15 +53,15 @@ stateless = 1 ∷ 7 ∷ 8 ∷ 9 ∷ 10 ∷ []
 pub done-arm : (d : Decision) → OneOf stateless (tagOf the-type d) → Done ≡ outcomeFor d
 done-arm (Refuse r) o = absurd (miss stateless 0 tt o)
 done-arm Reset o = refl
-done-arm (Pend k) o = absurd (miss stateless 2 tt o)
+done-arm (Start k) o = absurd (miss stateless 2 tt o)
 done-arm (Open k) o = absurd (miss stateless 3 tt o)
 done-arm (Load k) o = absurd (miss stateless 4 tt o)
-done-arm (Finish k) o = absurd (miss stateless 5 tt o)
-done-arm (Delete k) o = absurd (miss stateless 6 tt o)
-done-arm (Clear k) o = refl
-done-arm (Show k) o = refl
-done-arm Enumerate o = refl
-done-arm (Query k) o = refl
+done-arm (Close k) o = absurd (miss stateless 5 tt o)
+done-arm (DeleteSlot k) o = absurd (miss stateless 6 tt o)
+done-arm (DeleteKey k) o = refl
+done-arm (GetCard k) o = refl
+done-arm ListSlots o = refl
+done-arm (QuerySlot k) o = refl
 
 -- what an arm of put_fields requires is known of its decision, and what it wrote are the decision's fields: p are the parts, at the place, r the place after
 module _ (d : Decision) (p : Parts) (slots : List SlotRow) (n : ℕ) (rows : List RegisterRow) (m : ℕ) (owners : List ℕ) (c : Stored) (x : Supplement) (q : List ℕ) (room : ℕ) (h : CanRespond d p (tablesWith slots n rows m) owners c x q room) where
@@ -70,22 +70,22 @@ module _ (d : Decision) (p : Parts) (slots : List SlotRow) (n : ℕ) (rows : Lis
 
   module _ (k : ℕ) where
     -- s is the payload, v the part of it within the slot's bounds
-    module _ (o : d ≡ Pend k) (s : List ℕ) (i : s ≡ payloadOf q) where
-      pub pend-part : FitIn (length s) (p .slot)
-      pend-part = rw i ((rw o at h) .1 .0 .0 .0)
+    module _ (o : d ≡ Start k) (s : List ℕ) (i : s ≡ payloadOf q) where
+      pub start-part : FitIn (length s) (p .slot)
+      start-part = rw i ((rw o at h) .1 .0 .0 .0)
 
       module _ (v : List ℕ) (j : v ≡ bytesIn s (p .slot)) where
-        pend-kmcid : v ≡ kmcidOf (fieldsIn q)
-        pend-kmcid = j ∙ rw i ((rw o at h) .1 .0 .0 .1)
+        start-kmcid : v ≡ kmcidOf (fieldsIn q)
+        start-kmcid = j ∙ rw i ((rw o at h) .1 .0 .0 .1)
 
-        pub pend-short : length v ≤ 40
-        pend-short = rw pend-kmcid ((rw o at h) .1 .1 .0)
+        pub start-short : length v ≤ 40
+        start-short = rw start-kmcid ((rw o at h) .1 .1 .0)
 
-        pub pend-written : {a b : List ℕ} {at r : ℕ} → Wrote a at (payloadBytes (string v ∷ string (loadRequest x) ∷ [])) b r → Wrote a at (payloadBytes (fieldsFor d t x q)) b r
-        pend-written w = rw (o, ← pend-kmcid) w
+        pub start-written : {a b : List ℕ} {at r : ℕ} → Wrote a at (payloadBytes (string v ∷ string (loadRequest x) ∷ [])) b r → Wrote a at (payloadBytes (fieldsFor d t x q)) b r
+        start-written w = rw (o, ← start-kmcid) w
 
-    pub pend-request : d ≡ Pend k → x .«request_length» ≤ 700
-    pend-request o = (rw o at h) .1 .1 .1
+    pub start-request : d ≡ Start k → x .«request_length» ≤ 700
+    start-request o = (rw o at h) .1 .1 .1
 
     module _ (o : d ≡ Open k) (s : List ℕ) (i : s ≡ payloadOf q) where
       pub open-part : FitIn (length s) (p .slot)
@@ -117,42 +117,42 @@ module _ (d : Decision) (p : Parts) (slots : List SlotRow) (n : ℕ) (rows : Lis
       pub load-written : {a b : List ℕ} {at r : ℕ} → Wrote a at (payloadBytes (number (k + 1) ∷ string (take (c .length) (c .card)) ∷ [])) b r → Wrote a at (payloadBytes (fieldsFor d t x q)) b r
       load-written w = rw o (rw ((rw o at h) .1 .1 .0) at w)
 
-    module _ (o : d ≡ Show k) where
-      pub show-place : k < 32
-      show-place = (rw o at h) .1
+    module _ (o : d ≡ GetCard k) where
+      pub get-card-place : k < 32
+      get-card-place = (rw o at h) .1
 
-      pub show-in : (l : ℕ) → l ≡ 32 → k < l
-      show-in l z = let g = show-place in omega arith
+      pub get-card-in : (l : ℕ) → l ≡ 32 → k < l
+      get-card-in l z = let g = get-card-place in omega arith
 
       -- a card has 256 bytes
-      pub show-fits : k * 256 < 2 ^ 64
-      show-fits = let g = show-place in omega arith
+      pub get-card-fits : k * 256 < 2 ^ 64
+      get-card-fits = let g = get-card-place in omega arith
 
-    module _ (o : d ≡ Query k) where
-      pub query-place : k < 8
-      query-place = (rw o at h) .1 .0
+    module _ (o : d ≡ QuerySlot k) where
+      pub query-slot-place : k < 8
+      query-slot-place = (rw o at h) .1 .0
 
       -- a slot row has 73 bytes
-      pub query-fits : k * 73 < 2 ^ 64
-      query-fits = let g = query-place in omega arith
+      pub query-slot-fits : k * 73 < 2 ^ 64
+      query-slot-fits = let g = query-slot-place in omega arith
 
-      pub query-sum : (j : ℕ) → j ≤ 8 → k + j < 2 ^ 64
-      query-sum j l = let g = query-place in omega arith
+      pub query-slot-sum : (j : ℕ) → j ≤ 8 → k + j < 2 ^ 64
+      query-slot-sum j l = let g = query-slot-place in omega arith
 
-      pub query-count : m ≤ 32
-      query-count = (rw o at h) .1 .1 .0
+      pub query-slot-count : m ≤ 32
+      query-slot-count = (rw o at h) .1 .1 .0
 
-      pub query-written : {a b : List ℕ} {at r : ℕ} (y : SlotRow) → length slots ≡ 8
+      pub query-slot-written : {a b : List ℕ} {at r : ℕ} (y : SlotRow) → length slots ≡ 8
           → Wrote a at (payloadBytes (slotFields (getD slots k y) ++ numberFields (numbersFrom (isThe (k + 1)) 1 (take m owners)))) b r
           → Wrote a at (payloadBytes (fieldsFor d t x q)) b r
       unfolding queryFields
-      query-written y z w =
+      query-slot-written y z w =
           let e = same-numbers (isThe (k + 1)) (isUnder (slot.kmcidOf (getD slots k freeSlot))) 1 (take m owners) (take m rows) ((rw o at h) .1 .1 .1) in
-          let g = query-place in
+          let g = query-slot-place in
           rw o (rw (e, getD-any slots k y freeSlot (omega arith)) at w)
 
-  pub enumerate-count : d ≡ Enumerate → n ≤ 8
-  enumerate-count o = (rw o at h) .1
+  pub list-slots-count : d ≡ ListSlots → n ≤ 8
+  list-slots-count o = (rw o at h) .1
 
 -- an arm whose callee speaks as the definition does
 pub fields-arm : {a b : List ℕ} {at r : ℕ} (d e : Decision) (t : Tables) (x : Supplement) (q : List ℕ) → d ≡ e → Wrote a at (payloadBytes (fieldsFor e t x q)) b r → Wrote a at (payloadBytes (fieldsFor d t x q)) b r
@@ -162,9 +162,9 @@ fields-arm d e t x q o w = rw o w
 card-at : (cards : List (List ℕ)) (k : ℕ) → k < length cards → (y : List ℕ) (r : RegisterRow) → getD (rowsWith cards) k r ≡ rowWith (getD cards k y)
 card-at cards k h y r = getD-any (rowsWith cards) k r (rowWith y) (rw (length-map cards rowWith) h) ∙ List·getD-map rowWith cards k y
 
-pub show-written : {a b : List ℕ} {at r : ℕ} (d : Decision) (slots : List SlotRow) (n m : ℕ) (x : Supplement) (q : List ℕ) (k : ℕ) (cards : List (List ℕ)) (y : List ℕ) → d ≡ Show k → length cards ≡ 32 → k < 32
+pub get-card-written : {a b : List ℕ} {at r : ℕ} (d : Decision) (slots : List SlotRow) (n m : ℕ) (x : Supplement) (q : List ℕ) (k : ℕ) (cards : List (List ℕ)) (y : List ℕ) → d ≡ GetCard k → length cards ≡ 32 → k < 32
     → Wrote a at (payloadBytes (string (trimmed (getD cards k y)) ∷ [])) b r → Wrote a at (payloadBytes (fieldsFor d (tablesWithCards slots n cards m) x q)) b r
-show-written d slots n m x q k cards y o z h w = rw (o, card-at cards k (omega arith) y freeRegister) w
+get-card-written d slots n m x q k cards y o z h w = rw (o, card-at cards k (omega arith) y freeRegister) w
 
 -- the decisions whose response has no field, and a refusal
 abbrev bareOnes : List ℕ
@@ -173,15 +173,15 @@ bareOnes = 0 ∷ 1 ∷ 5 ∷ 6 ∷ 7 ∷ []
 pub no-fields : (d : Decision) (t : Tables) (x : Supplement) (q a : List ℕ) (at : ℕ) → OneOf bareOnes (tagOf the-type d) → Wrote a at (payloadBytes (fieldsFor d t x q)) a at
 no-fields (Refuse r) t x q a at o = none a at
 no-fields Reset t x q a at o = none a at
-no-fields (Pend k) t x q a at o = absurd (miss bareOnes 2 tt o)
+no-fields (Start k) t x q a at o = absurd (miss bareOnes 2 tt o)
 no-fields (Open k) t x q a at o = absurd (miss bareOnes 3 tt o)
 no-fields (Load k) t x q a at o = absurd (miss bareOnes 4 tt o)
-no-fields (Finish k) t x q a at o = none a at
-no-fields (Delete k) t x q a at o = none a at
-no-fields (Clear k) t x q a at o = none a at
-no-fields (Show k) t x q a at o = absurd (miss bareOnes 8 tt o)
-no-fields Enumerate t x q a at o = absurd (miss bareOnes 9 tt o)
-no-fields (Query k) t x q a at o = absurd (miss bareOnes 10 tt o)
+no-fields (Close k) t x q a at o = none a at
+no-fields (DeleteSlot k) t x q a at o = none a at
+no-fields (DeleteKey k) t x q a at o = none a at
+no-fields (GetCard k) t x q a at o = absurd (miss bareOnes 8 tt o)
+no-fields ListSlots t x q a at o = absurd (miss bareOnes 9 tt o)
+no-fields (QuerySlot k) t x q a at o = absurd (miss bareOnes 10 tt o)
 
 -- respond: a refusal, and the others
 module _ (d : Decision) (p : Parts) (t : Tables) (owners : List ℕ) (c : Stored) (x : Supplement) (q : List ℕ) (room : ℕ) (h : CanRespond d p t owners c x q room) where
@@ -205,15 +205,15 @@ module _ (p : Parts) (t : Tables) (owners : List ℕ) (c : Stored) (x : Suppleme
   accepted-so : (d : Decision) → CanRespond d p t owners c x q room → OneOf acceptedOnes (tagOf the-type d) → HasRoom (length q) room × (responseFor d t x q ≡ responseBytes (headerOf q) accepted (fieldsFor d t x q))
   accepted-so (Refuse r) h o = absurd (miss acceptedOnes 0 tt o)
   accepted-so Reset h o = (h, refl)
-  accepted-so (Pend k) h o = (h .0, refl)
+  accepted-so (Start k) h o = (h .0, refl)
   accepted-so (Open k) h o = (h .0, refl)
   accepted-so (Load k) h o = (h .0, refl)
-  accepted-so (Finish k) h o = (h, refl)
-  accepted-so (Delete k) h o = (h, refl)
-  accepted-so (Clear k) h o = (h, refl)
-  accepted-so (Show k) h o = (h .0, refl)
-  accepted-so Enumerate h o = (h .0, refl)
-  accepted-so (Query k) h o = (h .0, refl)
+  accepted-so (Close k) h o = (h, refl)
+  accepted-so (DeleteSlot k) h o = (h, refl)
+  accepted-so (DeleteKey k) h o = (h, refl)
+  accepted-so (GetCard k) h o = (h .0, refl)
+  accepted-so ListSlots h o = (h .0, refl)
+  accepted-so (QuerySlot k) h o = (h .0, refl)
 
 -- s is the header of the request
 module _ (d : Decision) (p : Parts) (t : Tables) (owners : List ℕ) (c : Stored) (x : Supplement) (q : List ℕ) (room : ℕ) (h : CanRespond d p t owners c x q room) (o : OneOf acceptedOnes (tagOf the-type d)) (s : List ℕ) (i : s ≡ headerOf q) where

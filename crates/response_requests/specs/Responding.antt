@@ -22,8 +22,8 @@ use Rattle.engine.specs.Refusals.{refusal}
 use Rattle.engine.specs.Requests.{fieldsIn}
 use Rattle.engine.specs.Answers.{accepted, responseOf, refusalReply}
 use Rattle.engine.specs.declared.Decision.{Decision}
-use Rattle.engine.specs.declared.Decision.the-variants.{Refuse, Reset, Pend, Open, Load, Finish}
-use Rattle.engine.specs.declared.Decision.the-variants.{Delete, Clear, Show, Enumerate, Query}
+use Rattle.engine.specs.declared.Decision.the-variants.{Refuse, Reset, Start, Open, Load, Close}
+use Rattle.engine.specs.declared.Decision.the-variants.{DeleteSlot, DeleteKey, GetCard, ListSlots, QuerySlot}
 use Rattle.engine.specs.declared.Outcome.{Outcome}
 use Rattle.engine.specs.declared.Outcome.the-variants.{Accepted, Done, Refused}
 use Rattle.decide_parts.specs.Parts.{kmcidOf, cardOf, HasParts}
@@ -34,30 +34,30 @@ use Rattle.response_refusals.specs.RefusalForms.{CanRefuse}
 abbrev pub outcomeFor : Decision → Outcome
 outcomeFor (Refuse r) = Refused r
 outcomeFor Reset = Done  -- GL?RS
-outcomeFor (Pend k) = Accepted Pending  -- SM?KC
+outcomeFor (Start k) = Accepted Pending  -- SM?KC
 outcomeFor (Open k) = Accepted Loading  -- SM?KR
 outcomeFor (Load k) = Accepted Loading  -- SM?KL
-outcomeFor (Finish k) = Accepted Idle  -- SM?KF
-outcomeFor (Delete k) = Accepted Free  -- SM?KX
-outcomeFor (Clear k) = Done  -- SM?KD
-outcomeFor (Show k) = Done  -- SM?GA
-outcomeFor Enumerate = Done  -- SM?GL
-outcomeFor (Query k) = Done  -- SM?KQ
+outcomeFor (Close k) = Accepted Idle  -- SM?KF
+outcomeFor (DeleteSlot k) = Accepted Free  -- SM?KX
+outcomeFor (DeleteKey k) = Done  -- SM?KD
+outcomeFor (GetCard k) = Done  -- SM?GA
+outcomeFor ListSlots = Done  -- SM?GL
+outcomeFor (QuerySlot k) = Done  -- SM?KQ
 
 -- the fields of the response to an accepted request, as the clause of 001 that is named has them; SM?GL's are the slots
 -- row by row
 abbrev pub fieldsFor : Decision → Tables → Supplement → List ℕ → List Value
 fieldsFor (Refuse r) t x q = []  -- not accepted
 fieldsFor Reset t x q = []  -- RS 6.2.7
-fieldsFor (Pend k) t x q = string (kmcidOf (fieldsIn q)) ∷ string (loadRequest x) ∷ []  -- KC 6.3.3
+fieldsFor (Start k) t x q = string (kmcidOf (fieldsIn q)) ∷ string (loadRequest x) ∷ []  -- KC 6.3.3
 fieldsFor (Open k) t x q = string (kmcidOf (fieldsIn q)) ∷ []  -- KR document 01: "the slot"
 fieldsFor (Load k) t x q = number (k + 1) ∷ string (cardOf x (fieldsIn q)) ∷ []  -- KL 6.3.5
-fieldsFor (Finish k) t x q = []  -- KF 6.3.6
-fieldsFor (Delete k) t x q = []  -- KX 6.3.7
-fieldsFor (Clear k) t x q = []  -- KD 6.3.9
-fieldsFor (Show k) t x q = string (storedIn (getD (t .registers) k freeRegister)) ∷ []  -- GA 6.3.8
-fieldsFor Enumerate t x q = nameFields (slotNames (slotRows t))  -- GL 6.3.1
-fieldsFor (Query k) t x q = queryFields (getD (t .slots) k freeSlot) (registerRows t)  -- KQ 6.3.2
+fieldsFor (Close k) t x q = []  -- KF 6.3.6
+fieldsFor (DeleteSlot k) t x q = []  -- KX 6.3.7
+fieldsFor (DeleteKey k) t x q = []  -- KD 6.3.9
+fieldsFor (GetCard k) t x q = string (storedIn (getD (t .registers) k freeRegister)) ∷ []  -- GA 6.3.8
+fieldsFor ListSlots t x q = nameFields (slotNames (slotRows t))  -- GL 6.3.1
+fieldsFor (QuerySlot k) t x q = queryFields (getD (t .slots) k freeSlot) (registerRows t)  -- KQ 6.3.2
 
 -- the response by its outcome: that of a refusal; else status 00 and the fields
 abbrev pub responseWith : Outcome → List Value → List ℕ → List ℕ
@@ -82,9 +82,9 @@ KnowsRegisters k t owners =
 abbrev pub CanRespond : Decision → Parts → Tables → List ℕ → Stored → Supplement → List ℕ → ℕ → Type 0
 CanRespond (Refuse r) p t owners c x q room = CanRefuse (refusal r .header) (length q) room
 CanRespond Reset p t owners c x q room = HasRoom (length q) room
-CanRespond (Pend k) p t owners c x q room =
+CanRespond (Start k) p t owners c x q room =
     HasRoom (length q) room
-    × (HasParts (Pend k) p (payloadOf q)
+    × (HasParts (Start k) p (payloadOf q)
     × ((length (kmcidOf (fieldsIn q)) ≤ 40)
     × (x .«request_length» ≤ 700)))
 CanRespond (Open k) p t owners c x q room =
@@ -96,12 +96,12 @@ CanRespond (Load k) p t owners c x q room =
     × ((c .length ≤ 256)
     × ((take (c .length) (c .card) ≡ cardOf x (fieldsIn q))
     × (k < 32)))
-CanRespond (Finish k) p t owners c x q room = HasRoom (length q) room
-CanRespond (Delete k) p t owners c x q room = HasRoom (length q) room
-CanRespond (Clear k) p t owners c x q room = HasRoom (length q) room
-CanRespond (Show k) p t owners c x q room = HasRoom (length q) room × (k < 32)
-CanRespond Enumerate p t owners c x q room = HasRoom (length q) room × (t .«slot_count» ≤ 8)
-CanRespond (Query k) p t owners c x q room =
+CanRespond (Close k) p t owners c x q room = HasRoom (length q) room
+CanRespond (DeleteSlot k) p t owners c x q room = HasRoom (length q) room
+CanRespond (DeleteKey k) p t owners c x q room = HasRoom (length q) room
+CanRespond (GetCard k) p t owners c x q room = HasRoom (length q) room × (k < 32)
+CanRespond ListSlots p t owners c x q room = HasRoom (length q) room × (t .«slot_count» ≤ 8)
+CanRespond (QuerySlot k) p t owners c x q room =
     HasRoom (length q) room
     × ((k < 8)
     × ((t .«register_count» ≤ 32)

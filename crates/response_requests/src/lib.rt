@@ -20,16 +20,16 @@ pub fn outcome(decision: Decision) -> Outcome
 {
     match decision {
         Decision::Refuse(r) => Outcome::Refused(r),
-        Decision::Pend(_) => Outcome::Accepted(SlotState::Pending),
+        Decision::Start(_) => Outcome::Accepted(SlotState::Pending),
         Decision::Open(_) => Outcome::Accepted(SlotState::Loading),
         Decision::Load(_) => Outcome::Accepted(SlotState::Loading),
-        Decision::Finish(_) => Outcome::Accepted(SlotState::Idle),
-        Decision::Delete(_) => Outcome::Accepted(SlotState::Free),
+        Decision::Close(_) => Outcome::Accepted(SlotState::Idle),
+        Decision::DeleteSlot(_) => Outcome::Accepted(SlotState::Free),
         Decision::Reset
-        | Decision::Clear(_)
-        | Decision::Show(_)
-        | Decision::Enumerate
-        | Decision::Query(_) => Outcome::Done,
+        | Decision::DeleteKey(_)
+        | Decision::GetCard(_)
+        | Decision::ListSlots
+        | Decision::QuerySlot(_) => Outcome::Done,
     }
 }
 
@@ -60,25 +60,25 @@ fn put_fields(
 {
     let decision = decided.decision;
     match decision {
-        Decision::Pend(_) => {
+        Decision::Start(_) => {
             let kmcid = byte_bounds::part(message_frames::payload(request), decided.parts.slot);
-            response_fields::put_pending(response, at, kmcid, supplement)
+            response_fields::put_started(response, at, kmcid, supplement)
         }
         Decision::Open(_) => {
             let kmcid = byte_bounds::part(message_frames::payload(request), decided.parts.slot);
             field_writer::put_string(response, at, kmcid)
         }
         Decision::Load(k) => response_fields::put_loaded(response, at, k, stored),
-        Decision::Show(k) => response_fields::put_card(response, at, &cards[k]),
-        Decision::Enumerate => response_slot_lists::put_names(response, at, slots, slot_count),
-        Decision::Query(k) => {
+        Decision::GetCard(k) => response_fields::put_card(response, at, &cards[k]),
+        Decision::ListSlots => response_slot_lists::put_names(response, at, slots, slot_count),
+        Decision::QuerySlot(k) => {
             response_slot_queries::put_query(response, at, slots[k], owners, register_count, k + 1)
         }
         Decision::Refuse(_)
         | Decision::Reset
-        | Decision::Finish(_)
-        | Decision::Delete(_)
-        | Decision::Clear(_) => at,
+        | Decision::Close(_)
+        | Decision::DeleteSlot(_)
+        | Decision::DeleteKey(_) => at,
     }
 }
 

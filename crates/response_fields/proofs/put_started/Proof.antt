@@ -1,12 +1,12 @@
--- `response_fields::put_pending` meets its contract: the load request is at most the 700 bytes that there are.
+-- `response_fields::put_started` meets its contract: the load request is at most the 700 bytes that there are.
 use Rattle.response_fields.proofs.FieldsWritten.{two-fields, request-fits, request-short}
 use Rattle.row_supplements.proofs.SupplementLaws.{room, front}
 use borrow.Author.Needs.{needs}
-use Rattle.response_fields.proofs.put_pending.Statement.{statement}
-use Rattle.response_fields.proofs.put_pending.Tie as tie
+use Rattle.response_fields.proofs.put_started.Statement.{statement}
+use Rattle.response_fields.proofs.put_started.Tie as tie
 
-pub put-pending-spec : {M : Type 1} → statement M
-put-pending-spec =
+pub put-started-spec : {M : Type 1} → statement M
+put-started-spec =
     tie.close
     (tie.spec
     (λ c κs. search needs)

@@ -1,13 +1,13 @@
--- `decide_sessions::decide_pend` meets its contract: the field is that of the command, or refused.
+-- `decide_sessions::decide_start` meets its contract: the field is that of the command, or refused.
 use Rattle.engine.specs.declared.Refusal.the-variants.{BadFields}
 use Rattle.decide_parts.proofs.PartLaws.{refused}
 use Rattle.decide_questions.proofs.RecordLaws.{text-refused, only-text}
 use borrow.Author.Needs.{needs}
-use Rattle.decide_sessions.proofs.decide_pend.Statement.{statement}
-use Rattle.decide_sessions.proofs.decide_pend.Tie as tie
+use Rattle.decide_sessions.proofs.decide_start.Statement.{statement}
+use Rattle.decide_sessions.proofs.decide_start.Tie as tie
 
-pub decide-pend-spec : {M : Type 1} → statement M
-decide-pend-spec =
+pub decide-start-spec : {M : Type 1} → statement M
+decide-start-spec =
     tie.close
     (tie.spec
     (λ c κs. search needs)
