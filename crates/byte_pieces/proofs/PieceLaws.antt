@@ -2,11 +2,11 @@
 use mathlib.Core.Path.{_≡_, refl, sym, ap, _∙_}
 use mathlib.Core.Bool.{Bool, true, false, not}
 use mathlib.Core.List.{List, [], _∷_, _++_}
-use Prim.Native.Nat.{ℕ, zero, suc, _+_, _-_, _≤_, _<_}
+use Prim.Native.Nat.{ℕ, _+_, _-_, _≤_, _<_}
 use native.Mathlib.Numerals.{add-one}
 use native.Mathlib.Omega.{arith}
 use lib.Dec.{eqb}
-use lib.ListN.{length, getD, take, drop, length-drop, drop-of-length-le}
+use lib.ListN.{length, take, drop, length-drop}
 use lib.Seq.{drop-drop}
 use borrow.Author.Tests.{eq-eqb}
 use Rattle.byte_strings.specs.Strings.{isNot, run, allOf}
@@ -95,26 +95,6 @@ module _ (d : ℕ) (s : List ℕ) (at e : ℕ) (p : e ≡ at + run (isNot d) (dr
       let l : run (isNot d) (drop at s) < length (drop at s) = omega (arith, length-drop at s) in
       let k : at + (e - at + 1) ≡ e + 1 = omega arith in
       ended-first d (drop at s) l ∙ rw (run-here, drop-drop, k)
-
--- piece: z is what is looked for, the k-th piece of what is left
-module _ (d : ℕ) (s : List ℕ) (at k : ℕ) (z : List ℕ) (inv : getD (pieces d (drop at s)) k [] ≡ z) where
-  pub piece-done : length s ≤ at → [] ≡ z
-  piece-done h = ap (λ (l : List ℕ). getD (pieces d l) k []) (sym (drop-of-length-le s h)) ∙ inv
-
-  module _ (e : ℕ) (p : e ≡ at + run (isNot d) (drop at s)) where
-    pub piece-open : at < length s → length s ≤ e → [] ≡ z
-    piece-open l h = ap (λ (ps : List (List ℕ)). getD ps k []) (sym (no-piece d s at e p (omega arith) h)) ∙ inv
-
-    module _ (h : e < length s) where
-      pub piece-here : k ≡ 0 → take (e - at) (drop at s) ≡ z
-      piece-here o = rw (next-piece d s at e p h, o) at inv
-
-      pub piece-later : (k ≡ 0 → ⊥) → getD (pieces d (drop (e + 1) s)) (k - 1) [] ≡ z
-      piece-later o = later k o inv
-        where
-          later : (j : ℕ) → (j ≡ 0 → ⊥) → getD (pieces d (drop at s)) j [] ≡ z → getD (pieces d (drop (e + 1) s)) (j - 1) [] ≡ z
-          later zero n q = absurd (n refl)
-          later (suc j) n q = let m : suc j - 1 ≡ j = omega arith in rw m (rw (next-piece d s at e p h) at q)
 
 -- a piece that is written is read, and what stands after it
 not-false : (t : Bool) → not t ≡ true → t ≡ false
