@@ -11,7 +11,7 @@ use Rattle.text_decimals.proofs.decimal.Statement.{statement}
 use Rattle.text_decimals.proofs.decimal.Tie as tie
 
 abbrev Inv-loop : tie.InvT-loop
-Inv-loop s v₀ i₀ v i = (i ≤ length s) × (v + 23 ≤ 23 * 10 ^ i) × (decFrom v (drop i s) ≡ decFrom 0 s)
+Inv-loop s v₀ i₀ v i = (i ≤ length s) × (decFrom v (drop i s) ≡ decFrom 0 s) × (v + 23 ≤ 23 * 10 ^ i)
 
 abbrev μ-loop : tie.MeasureT-loop
 μ-loop s v₀ i₀ v i = length s - i
@@ -22,12 +22,12 @@ decimal-spec =
     (tie.spec
     Inv-loop
     μ-loop
-    (λ c. (search needs, search needs, refl))
-    (λ c. let l = c .before in omega (arith, dec-fits (l .loop .v) (l .loop .i) (l .loop .inv .1) (search needs)))
+    (λ c. (search needs, refl, search needs))
+    (λ c. let l = c .before in omega (arith, dec-fits (l .loop .v) (l .loop .i) (l .loop .inv .2) (search needs)))
     (λ c. search needs)
     (λ c κs. search needs)
-    (λ c. let l = c .before .before .before in omega (arith, dec-fits (l .loop .v) (l .loop .i) (l .loop .inv .1) (search needs), c .before .shared-slice-known2 .given (l .loop .i)))
+    (λ c. let l = c .before .before .before in omega (arith, dec-fits (l .loop .v) (l .loop .i) (l .loop .inv .2) (search needs), c .before .shared-slice-known2 .given (l .loop .i)))
     (λ c. search needs)
     (λ c. search needs)
-    (λ c. let l = c .before .before .before in let s = now (l .before .before .args .digits) in (search needs, rw (c .digit-value .ensures) (dec-room (l .loop .v) (l .loop .i) (getD s (l .loop .i) 0) (l .loop .inv .1) (omega (arith, c .before .shared-slice-known2 .given (l .loop .i)))), search dec-turn))
-    (λ c. let l = c .before in (search dec-ended, dec-small (l .loop .v) (l .loop .i) (l .loop .inv .1) (search needs))))
+    (λ c. let l = c .before .before .before in let s = now (l .before .before .args .digits) in (search needs, search dec-turn, rw (c .digit-value .ensures) (dec-room (l .loop .v) (l .loop .i) (getD s (l .loop .i) 0) (l .loop .inv .2) (omega (arith, c .before .shared-slice-known2 .given (l .loop .i))))))
+    (λ c. let l = c .before in (search dec-ended, dec-small (l .loop .v) (l .loop .i) (l .loop .inv .2) (search needs))))
