@@ -33,14 +33,14 @@ fn last_field(s: &[u8], at: usize) -> Field
 }
 
 // A reader before the first field.
-pub fn new<'a>(payload: &'a [u8]) -> Reader<'a>
+fn new<'a>(payload: &'a [u8]) -> Reader<'a>
     ensures { λ r. ⌜ r ≡ readerOf (payload .entry) ⌝ }
 {
     Reader { payload, at: 0 }
 }
 
 // The next field; the reader moves past it.
-pub fn next<'s, 'a>(r: &'s mut Reader<'a>) -> Field
+fn next<'s, 'a>(r: &'s mut Reader<'a>) -> Field
     ensures { λ f. ⌜ fieldValue (now (now (r .entry) .payload)) f ≡ nextIn (now (r .entry)) ⌝ }
     ensures within { λ f. ⌜ Within (length (now (now (r .entry) .payload))) f ⌝ }
     ensures past { λ _. ⌜ now (r .exit) ≡ past (now (r .entry)) ⌝ }
@@ -51,7 +51,7 @@ pub fn next<'s, 'a>(r: &'s mut Reader<'a>) -> Field
 }
 
 // The next field if nothing follows it, else `Bad`.
-pub fn last<'a>(r: Reader<'a>) -> Field
+fn last<'a>(r: Reader<'a>) -> Field
     ensures { λ f. ⌜ fieldValue (now (r .entry .payload)) f ≡ lastIn (r .entry) ⌝ }
     ensures within { λ f. ⌜ Within (length (now (r .entry .payload))) f ⌝ }
 {

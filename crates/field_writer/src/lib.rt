@@ -3,7 +3,7 @@ ghost use Prim.Native.Nat.{_+_, _≤_};
 ghost use mathlib.Core.Path.{_≡_};
 ghost use lib.ListN.{length};
 ghost use Rattle.byte_strings.specs.Wrote.{Writes};
-ghost use Rattle.field_values.specs.Values.{number, string, date, octets, contentBytes, fieldBytes};
+ghost use Rattle.field_values.specs.Values.{number, string, octets, contentBytes, fieldBytes};
 
 // Writes a field of a type with its content, and answers the place after it.
 fn put_content(dst: &mut [u8], at: usize, kind: u8, v: &[u8]) -> usize
@@ -34,15 +34,6 @@ pub fn put_string(dst: &mut [u8], at: usize, value: &[u8]) -> usize
     ensures short { λ r. ⌜ r ≡ at + length (now (value .entry)) + 2 ⌝ }
 {
     put_content(dst, at, b'P', value)
-}
-
-// Writes a date of fourteen digits, and answers the place after it.
-pub fn put_date(dst: &mut [u8], at: usize, value: &[u8]) -> usize
-    requires { ⌜ at + length (now value) + 2 ≤ length (now dst) ⌝ }
-    ensures { λ r. ⌜ Writes dst at (fieldBytes (date (now (value .entry)))) r ⌝ }
-    ensures short { λ r. ⌜ r ≡ at + length (now (value .entry)) + 2 ⌝ }
-{
-    put_content(dst, at, b'D', value)
 }
 
 // Writes hex octets by their digits, and answers the place after them.
