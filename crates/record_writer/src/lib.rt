@@ -12,7 +12,7 @@ ghost use Rattle.check_sums.specs.declared.Kind.the-variants.{Modbus};
 ghost use Rattle.record_writer.specs.Build.{recordBytes};
 
 // Writes one field and its delimiter, and answers the place after it.
-pub fn put_field(dst: &mut [u8], at: usize, field: &[u8], delimiter: u8) -> usize
+fn put_field(dst: &mut [u8], at: usize, field: &[u8], delimiter: u8) -> usize
     requires { ⌜ at + length (now field) + 1 ≤ length (now dst) ⌝ }
     ensures { λ r. ⌜ Writes dst at (joined delimiter (now (field .entry) ∷ [])) r ⌝ }
     ensures short { λ r. ⌜ r ≡ at + length (now (field .entry)) + 1 ⌝ }
@@ -22,7 +22,7 @@ pub fn put_field(dst: &mut [u8], at: usize, field: &[u8], delimiter: u8) -> usiz
 }
 
 // Writes the four digits of the bytes from a place up to `to` behind them, and answers the place after the digits.
-pub fn close_record(dst: &mut [u8], from: usize, to: usize) -> usize
+fn close_record(dst: &mut [u8], from: usize, to: usize) -> usize
     requires { ⌜ (from ≤ to) × (to + 4 ≤ length (now dst)) ⌝ }
     ensures { λ r. ⌜ Writes dst to (sumDigits Modbus (take (to - from) (drop from (now (dst .entry))))) r ⌝ }
     ensures short { λ r. ⌜ r ≡ to + 4 ⌝ }
