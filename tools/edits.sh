@@ -2,8 +2,8 @@
 # Reads off rt's logs that each wrong answer of the must-fail edits is refused as its edit says: tools/edits.sh [crate..],
 # after `rt ci` or `rt must-fail`. rt refuses an edit as soon as anything in its crate is not proved; here each wrong
 # answer of the file is held to its own refusal. An edit file says above each of its pairs one of
-#   # FUNCTION at STEP: why        the function is refused at that step: the words of its proof where the first error is,
-#                                  or, for a function without a proof file, the name of the need that is left open
+#   # FUNCTION at STEP: why        the function is refused at that step of its proof: the words where the first error is,
+#                                  or the name of the need that is not met
 #   # law NAME: why                the definition breaks this law, where the log's first error is (alone in its file)
 # Afterwards it prints what the edits cost, by crate.
 set -eu -o pipefail
@@ -33,6 +33,7 @@ holds_function() {
     error=$(grep -m 1 "/proofs/$1/Proof.antt:[0-9]*:[0-9]*: error: " "$log") || { complain "$1 has no error of its own"; return; }
     place=${error#*"/proofs/$1/Proof.antt:"}
     if is_misfit "$error"; then complain "the proof of $1 does not fit its shape: ${place:0:160}"; return; fi
+    [[ ${place#*: error: } != "\`$2\`:"* ]] || return 0
     place=${place%%: error*}
     stands_at "$edited/proofs/$1/Proof.antt" "${place%:*}" "${place#*:}" "$2" ||
         complain "$1 is not refused at '$2', but at $place: $(sed -n "${place%:*}p" "$edited/proofs/$1/Proof.antt" | cut -c"${place#*:}"-)"

@@ -18,11 +18,13 @@ use Rattle.card_attributes.specs.Table.{ACT, BDT, CLM, CLU, DKG, IUT, KCV, KEN,
 use Rattle.card_stored.specs.Stored.{isStored}
 use Rattle.text_patterns.specs.Patterns.{fits}
 use Rattle.text_patterns.proofs.PatternLaws.{fits-append, fits-length}
-use Rattle.card_places.specs.Places.{startsWith, after, afterAll, afterFitting, isLong, isClear}
-use Rattle.card_places.proofs.EntryPlaces.{starts-front}
+use Rattle.card_steps.specs.Steps.{startsWith, after, isLong}
+use Rattle.card_places.specs.Places.{afterAll, afterFitting, isClear}
+use Rattle.card_steps.proofs.EntryPlaces.{starts-front}
 use Rattle.card_places.proofs.Shapes.{Told, noMore, stampShape, isPlain, digits-told, hex-told, number-told, from-zero-told, algorithm-told, stamp-told, name-fits}
 use Rattle.card_places.proofs.Rows.{Row, pattern, tests, afterRows, after-rows}
-use Rattle.card_places.proofs.Stands.{stands-not, past-stays, stored-after}
+use Rattle.card_steps.proofs.Stands.{stands-not, past-stays}
+use Rattle.card_places.proofs.Stands.{stored-after}
 
 -- the attributes whose values have one length
 abbrev row : (n : ℕ) → T (isPlain n) → (f : Form) (shape : List ℕ) (test : List ℕ → Bool) → isLong f (length shape) ≡ true → Told f shape test → Row

@@ -14,10 +14,10 @@ use Rattle.text_forms.specs.declared.Form.{Form}
 use Rattle.card_entries.specs.Entries.{entryLength, nameBytes}
 use Rattle.text_patterns.specs.Patterns.{fitsByte, fits}
 use Rattle.text_patterns.proofs.PatternLaws.{fits-itself, fits-front, fits-append, fits-length}
-use Rattle.card_places.specs.Places.{startsWith, after, isLong}
-use Rattle.card_places.proofs.EntryPlaces.{Framed, behind, framed-entry, entry-long, entry-framed}
+use Rattle.card_steps.specs.Steps.{startsWith, after, isLong}
+use Rattle.card_steps.proofs.EntryPlaces.{Framed, behind, framed-entry, entry-long, entry-framed}
 use Rattle.card_places.proofs.Shapes.{Told, isPlain, plain-some, name-fits, fits-name}
-use Rattle.card_places.proofs.Stands.{stands, stands-not, past-stays}
+use Rattle.card_steps.proofs.Stands.{stands, stands-not, past-stays}
 
 -- an attribute with the shape of its values
 pub record Row : Type 0 where

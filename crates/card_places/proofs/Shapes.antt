@@ -1,17 +1,17 @@
 -- The shapes of values and names: a pattern that a value in form fits, and what is asked of the value besides.
-use mathlib.Core.Path.{_≡_, refl, sym, ap, _∙_}
-use mathlib.Core.Bool.{Bool, true, false, cond, not, and-true, _&&_, _||_}
+use mathlib.Core.Path.{_≡_, refl, sym, _∙_}
+use mathlib.Core.Bool.{Bool, true, false, cond, not, and-true, _&&_}
 use mathlib.Core.List.{List, [], _∷_, _++_}
 use Prim.Native.Nat.{ℕ, _+_, _-_, _*_, _/_, _%_, _≤_, _<_}
 use mathlib.Core.Logic.{⊎-elim}
 use native.Mathlib.Omega.{arith}
 use lib.Dec.{T, eqb, leb}
 use lib.ListN.{length, getD, take, drop, replicate, length-replicate, length-drop}
-use lib.Seq.{drop-cons, drop-drop, length-take-le}
+use lib.Seq.{length-take-le}
 use borrow.Author.Tests.{eq-eqb, le-leb, lt-leb, leb-true, eqb-true, not-true}
 use Rattle.byte_strings.specs.Texts.{text}
 use Rattle.byte_strings.specs.Strings.{allOf}
-use Rattle.byte_strings.proofs.Flags.{and-first, and-second, and-both, or-cases, both-ways, yes}
+use Rattle.byte_strings.proofs.Flags.{and-first, and-second, and-both, both-ways, yes}
 use Rattle.text_classes.specs.Classes.{within, isOf, areAll}
 use Rattle.text_classes.specs.declared.Class.the-variants.{Capital, Digit, Hexadecimal}
 use Rattle.text_decimals.specs.Decimals.{decimal, isUnpadded, isNumber}

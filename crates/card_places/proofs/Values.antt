@@ -9,7 +9,7 @@ use lib.Dec.{T, eqb}
 use lib.ListN.{length, take, drop, length-drop}
 use lib.Seq.{drop-drop, length-take-le, take-all}
 use borrow.Author.Tests.{eq-eqb}
-use Rattle.byte_strings.proofs.Flags.{and-first, and-second, and-left, and-right, no}
+use Rattle.byte_strings.proofs.Flags.{and-first, and-left, and-right, no}
 use Rattle.byte_strings.proofs.StringLaws.{drop-take}
 use Rattle.byte_pieces.specs.Pieces.{pieces}
 use Rattle.byte_pieces.proofs.PieceLaws.{pieces-first}
@@ -23,9 +23,11 @@ use Rattle.card_attributes.specs.declared.Presence.the-variants.{Required, Engi
 use Rattle.card_attributes.proofs.TableLaws.{allRows}
 use Rattle.card_stored.specs.Stored.{isStored}
 use Rattle.card_stored.proofs.Sequence.{isStoredFrom, stored-walk}
-use Rattle.card_places.specs.Places.{startsWith, after, afterAll, isLong}
-use Rattle.card_places.proofs.EntryPlaces.{starts-short, starts-named, starts-three, entry-long}
-use Rattle.card_places.proofs.Stands.{stands, stands-within, first-entry, first-stands}
+use Rattle.card_steps.specs.Steps.{startsWith, after, isLong}
+use Rattle.card_places.specs.Places.{afterAll}
+use Rattle.card_steps.proofs.EntryPlaces.{starts-short, starts-named, starts-three, entry-long}
+use Rattle.card_steps.proofs.Stands.{stands, stands-within}
+use Rattle.card_places.proofs.Stands.{first-entry, first-stands}
 
 -- an entry of a name, its value in form, stands at a place
 record Stands (n : ℕ) (f : Form) (s : List ℕ) (at : ℕ) : Type 0 where

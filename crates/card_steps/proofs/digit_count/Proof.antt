@@ -1,4 +1,4 @@
--- `card_places::digit_count` meets its contract. The place and what is left of the run are the whole run.
+-- `card_steps::digit_count` meets its contract. The place and what is left of the run are the whole run.
 use mathlib.Core.Path.{_≡_}
 use Prim.Native.Nat.{_+_, _-_, _≤_}
 use lib.ListN.{length, drop}
@@ -6,10 +6,10 @@ use Rattle.byte_strings.specs.Strings.{run}
 use Rattle.byte_strings.proofs.StringLaws.{run-ended}
 use Rattle.text_classes.specs.Classes.{isOf}
 use Rattle.text_classes.specs.declared.Class.the-variants.{Digit}
-use Rattle.card_places.proofs.Numbers.{digits-stopped, digits-turn}
+use Rattle.card_steps.proofs.Numbers.{digits-stopped, digits-turn}
 use borrow.Author.Needs.{needs}
-use Rattle.card_places.proofs.digit_count.Statement.{statement}
-use Rattle.card_places.proofs.digit_count.Tie as tie
+use Rattle.card_steps.proofs.digit_count.Statement.{statement}
+use Rattle.card_steps.proofs.digit_count.Tie as tie
 
 abbrev Inv-loop : tie.InvT-loop
 Inv-loop v i₀ i = (i ≤ length v) × (i + run (isOf Digit) (drop i v) ≡ run (isOf Digit) v)

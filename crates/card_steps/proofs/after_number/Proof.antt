@@ -1,8 +1,8 @@
--- `card_places::after_number` meets its contract, a law a return.
-use Rattle.card_places.proofs.Numbers.{number-none, number-other, number-open, number-unended, number-out, number-stands, number-all, limit-start}
+-- `card_steps::after_number` meets its contract, a law a return.
+use Rattle.card_steps.proofs.Numbers.{number-none, number-other, number-open, number-unended, number-out, number-stands, number-all, limit-start}
 use borrow.Author.Needs.{needs}
-use Rattle.card_places.proofs.after_number.Statement.{statement}
-use Rattle.card_places.proofs.after_number.Tie as tie
+use Rattle.card_steps.proofs.after_number.Statement.{statement}
+use Rattle.card_steps.proofs.after_number.Tie as tie
 
 -- from here on a search of all fields breaks off, so the facts are given
 returns-3 : tie.Need-returns-3

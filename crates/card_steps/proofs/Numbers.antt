@@ -19,9 +19,9 @@ use Rattle.text_decimals.proofs.NumberLaws.{number-short, number-digits}
 use Rattle.text_forms.specs.declared.Form.the-variants.{Number}
 use Rattle.card_entries.specs.Entries.{entryLength, nameOf}
 use Rattle.card_stored.proofs.Runs.{run-all}
-use Rattle.card_places.specs.Places.{startsWith, after}
-use Rattle.card_places.proofs.EntryPlaces.{Framed, starts-three, starts-framed, behind, framed-long, framed-entry}
-use Rattle.card_places.proofs.Stands.{stands, stands-not}
+use Rattle.card_steps.specs.Steps.{startsWith, after}
+use Rattle.card_steps.proofs.EntryPlaces.{Framed, starts-three, starts-framed, behind, framed-long, framed-entry}
+use Rattle.card_steps.proofs.Stands.{stands, stands-not}
 
 -- digit_count: the place and what is left of the run are the whole, x
 module _ (s : List ℕ) (i x : ℕ) (inv : i + run (isOf Digit) (drop i s) ≡ x) (h : i < length s) (t : Bool) (e : t ≡ isOf Digit (getD s i 0)) where

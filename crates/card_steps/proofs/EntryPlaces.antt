@@ -2,7 +2,7 @@
 use mathlib.Core.Path.{_≡_, refl, sym, ap, _∙_}
 use mathlib.Core.Bool.{Bool, true, false, cond, not, _&&_}
 use mathlib.Core.List.{List, [], _∷_, _++_}
-use Prim.Native.Nat.{ℕ, suc, _+_, _-_, _*_, _≤_, _<_}
+use Prim.Native.Nat.{ℕ, suc, _+_, _-_, _≤_, _<_}
 use native.Mathlib.Omega.{arith}
 use lib.Dec.{eqb, ltb, leb}
 use lib.ListN.{length, getD, take, drop, length-drop, take-append-drop}
@@ -13,7 +13,7 @@ use Rattle.byte_strings.specs.Texts.{text}
 use Rattle.byte_strings.specs.Strings.{run, isNot, allOf}
 use Rattle.byte_strings.proofs.Flags.{nope, and-first, and-second, and-both}
 use Rattle.byte_strings.proofs.StringLaws.{drop-take, all-run}
-use Rattle.text_classes.specs.Classes.{isOf, areAll}
+use Rattle.text_classes.specs.Classes.{areAll}
 use Rattle.text_classes.specs.declared.Class.the-variants.{Capital, Digit, Hexadecimal}
 use Rattle.text_classes.proofs.ClassLaws.{class-plain}
 use Rattle.text_decimals.specs.Decimals.{decimal, isUnpadded, isNumber}
@@ -25,7 +25,7 @@ use Rattle.text_forms.specs.declared.Form.the-variants.{Timestamp, Algorithm, N
 use Rattle.text_forms.proofs.FormBounds.{in-form-plain, semicolon, algorithm-is}
 use Rattle.card_entries.specs.Entries.{entryLength, nameOf}
 use Rattle.card_entries.proofs.EntryLaws.{name-length, name-capitals}
-use Rattle.card_places.specs.Places.{startsWith, isLong}
+use Rattle.card_steps.specs.Steps.{startsWith, isLong}
 
 -- the length of a value in such a form
 number-some : (digits low high : ℕ) (v : List ℕ) → isNumber digits low high v ≡ true → 1 ≤ length v

@@ -1,9 +1,9 @@
--- `card_places::is_number` meets its contract, a law a return.
+-- `card_steps::is_number` meets its contract, a law a return.
 use Rattle.text_decimals.proofs.NumberLaws.{none, many}
-use Rattle.card_places.proofs.Numbers.{zero-first, in-range}
+use Rattle.card_steps.proofs.Numbers.{zero-first, in-range}
 use borrow.Author.Needs.{needs}
-use Rattle.card_places.proofs.is_number.Statement.{statement}
-use Rattle.card_places.proofs.is_number.Tie as tie
+use Rattle.card_steps.proofs.is_number.Statement.{statement}
+use Rattle.card_steps.proofs.is_number.Tie as tie
 
 pub is-number-spec : {M : Type 1} → statement M
 is-number-spec =

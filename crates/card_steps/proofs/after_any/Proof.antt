@@ -1,14 +1,15 @@
--- `card_places::after_any` meets its contract, a law a return.
-use Rattle.card_places.proofs.Stands.{anyCases, any-out, any-in, any-room}
+-- `card_steps::after_any` meets its contract, a law a return.
+use native.Mathlib.Omega.{arith}
+use Rattle.card_steps.proofs.Stands.{anyCases, any-out, any-in, any-room}
 use borrow.Author.Needs.{needs}
-use Rattle.card_places.proofs.after_any.Statement.{statement}
-use Rattle.card_places.proofs.after_any.Tie as tie
+use Rattle.card_steps.proofs.after_any.Statement.{statement}
+use Rattle.card_steps.proofs.after_any.Tie as tie
 
 -- the value starts within the entry; from here on a search of all fields breaks off, so the facts are given
 sub-in-form : tie.Need-sub-in-form
 sub-in-form c =
     let b = c .before .before .before in
-    any-room _ _ _ _ (b .before .piece-end .ensures .0) (b .if2 .left) _ (c .before .name-of .ensures) (c .if3 .left) (b .before .before .before .before .pre .1)
+    omega (arith, any-room _ _ _ _ (b .before .piece-end .ensures .0) (b .if2 .left) _ (c .before .name-of .ensures) (c .if3 .left) (b .before .before .before .before .pre .1))
 
 part-in-form-start : tie.Need-part-in-form-start
 part-in-form-start c = sub-in-form c
