@@ -2,11 +2,22 @@
 use mathlib.Core.Path.{_≡_, refl}
 use mathlib.Core.Logic.{_⊎_, inl, inr}
 use mathlib.Core.Bool.{Bool, true, false, _&&_}
-use mathlib.Core.List.{List, [], _∷_, _++_}
+use Prim.Native.Nat.{ℕ}
+use mathlib.Core.List.{List, [], _∷_, _++_, map}
 use mathlib.Core.Option.{none, some}
 use Rattle.byte_strings.proofs.Flags.{nope, and-first, and-second}
-use Rattle.engine.specs.Questions.{Question, _otherwise_, firstNo}
+use Rattle.engine.specs.Refusals.{refusal}
+use Rattle.engine.specs.Questions.{Call, Question, _otherwise_, questions, firstNo}
 use Rattle.engine.specs.declared.Refusal.{Refusal}
+
+-- the number of the refusal where the answer is no
+abbrev pub numberOf : Question → ℕ
+numberOf (b otherwise r) = refusal r .number
+
+-- whatever the call, the questions are asked in the sequence of their refusals' numbers, each once
+pub in-order : (x : Call) → map numberOf (questions x) ≡ (1 ∷ 2 ∷ 3 ∷ 4 ∷ 5 ∷ 6 ∷ 7 ∷ 8 ∷ 9 ∷ 10 ∷ 11 ∷ 12 ∷ 13 ∷ 14 ∷ 15 ∷ 16 ∷ 17 ∷ 18 ∷ 19 ∷ 20 ∷ 21 ∷ [])
+unfolding questions
+in-order x = refl
 
 -- every question is a yes
 abbrev pub AllYes : List Question → Type 0

@@ -4,3 +4,4 @@ pub mod PlaceCounts
 pub mod RowReplyLaws
 pub mod WriteLoops
 pub mod FreeSlots
+pub mod SoundLaws
