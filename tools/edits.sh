@@ -4,11 +4,12 @@
 # answer of the file is held to its own refusal. An edit file says above each of its pairs one of
 #   # FUNCTION at STEP: why        the function is refused at that step of its proof: the words where the first error is,
 #                                  or the name of the need that is not met
-#   # law NAME: why                the definition breaks this law, where the log's first error is (alone in its file)
-# Afterwards it prints what the edits cost, by crate.
+#   # law NAME: why                the definition, alone in its file, breaks this law, and not only what the law cites
+# Afterwards it prints what the edits cost, by crate. Without a crate it first tries itself: it must find what is wrong in
+# forged logs. TREE is the tree that it reads, this one unless told otherwise.
 set -eu -o pipefail
 export LC_ALL=C.UTF-8
-top=$(cd "$(dirname "$0")/.." && pwd)
+top=${TREE:-$(cd "$(dirname "$0")/.." && pwd)}
 logs=$top/target/must-fail
 failed=0 answers=0 files=0
 
@@ -39,12 +40,12 @@ holds_function() {
         complain "$1 is not refused at '$2', but at $place: $(sed -n "${place%:*}p" "$edited/proofs/$1/Proof.antt" | cut -c"${place#*:}"-)"
 }
 
-# The first error of the log is in the law $1.
+# The law $1 has an error of its own in the log, not only one of what it cites.
 holds_law() {
     local error
-    error=$(grep -m 1 -E '^[^ ]*: error: ' "$log") || { complain "the log has no error"; return; }
-    if is_misfit "$error"; then complain "no fact: ${error:0:200}"; return; fi
-    [[ ${error#*: error: } == "\`$1\`"* ]] || complain "the first error is not in the law $1: ${error#*/must-fail/}"
+    error=$(grep -F ": error: \`$1\`: " "$log" | grep -v -m 1 'was not admitted') ||
+        { complain "the law $1 is not broken: $(grep -m 1 -o 'error: `[^`]*`.*' "$log" | cut -c1-120)"; return; }
+    if is_misfit "$error"; then complain "no fact: ${error#*: error: }"; fi
 }
 
 # Reads the headings of an edit file, and holds the log to each.
@@ -67,8 +68,42 @@ hold() {
     answers=$((answers + named))
 }
 
-costs=$(mktemp)
-trap 'rm -f "$costs"' EXIT
+# A tree of one crate and one edit, whose headings are $1; its log is standard input, the proof of its function f has the
+# one line `    (λ c. search here)`.
+forge() {
+    rm -rf "$work/crates" "$work/target"
+    mkdir -p "$work/crates/c/must-fail" "$work/target/must-fail/c/e/proofs/f"
+    printf '%s\nfile: src/lib.rt\nold: a\nnew: b\n' "$1" >"$work/crates/c/must-fail/e.edit"
+    echo '    (λ c. search here)' >"$work/target/must-fail/c/e/proofs/f/Proof.antt"
+    echo 'rt: must-fail c/e: refused, as it must be (first at proofs/f/Proof.antt:1:11; 3 s)' >"$work/target/must-fail/c/e.out"
+    cat >"$work/target/must-fail/c/e/.log"
+}
+passes() { TREE=$work bash "$0" c >/dev/null || { echo "edits: the reader refuses a wrong answer that is refused"; exit 1; }; }
+finds() { if TREE=$work bash "$0" c >/dev/null; then echo "edits: the reader lets pass: $1"; exit 1; fi; }
+try() {
+    local at='/proofs/f/Proof.antt:1:11: error: `f-spec`: `search`: no proof of `x`'
+    forge '# f at search here: why' <<<"$at"$'\nfn c::f: not proved'; passes
+    forge '# f at f-spec: why' <<<"$at"$'\nfn c::f: not proved'; passes
+    forge '# f at returns: why' <<<'fn c::f: no proof: expected `f-spec`; `search` does not close `returns`'; passes
+    forge '# law l: why' <<<'/proofs/Laws.antt:1:1: error: `l`: the two types differ'; passes
+    forge '# f at search there: why' <<<"$at"$'\nfn c::f: not proved'; finds 'another step'
+    forge '# f at search here: why' <<<"$at"$'\nfn c::f: proved'; finds 'a function that is still proved'
+    forge '# f at search here: why' <<<"$at"$'\nfn c::f: not proved; it calls `c::g`, which is not proved'; finds 'a caller'
+    forge '# f at search here: why' <<<'fn c::g: not proved'; finds 'another function'
+    forge '# f at search here: why' <<<"${at/no proof of/is checked against}"$'\nfn c::f: not proved'; finds 'a misfit of shape'
+    forge '# f at returns: why' <<<'fn c::f: no proof: expected `f-spec`; `search` does not close `index`'; finds 'another need'
+    forge '# law l: why' <<<'/proofs/Laws.antt:1:1: error: `m`: the two types differ'; finds 'another law'
+    forge '# law l: why' <<<'/proofs/Laws.antt:1:1: error: `l`: `m` was not admitted'; finds 'a law that only cites'
+    forge '# why' <<<"$at"$'\nfn c::f: not proved'; finds 'no heading'
+    forge '# f at search here: why' <<<"$at"$'\nfn c::f: not proved'
+    rm "$work/target/must-fail/c/e/.log"; finds 'an edit that was not tried'
+}
+work=$(mktemp -d)
+trap 'rm -rf "$work"' EXIT
+if [ $# -eq 0 ]; then try; fi
+
+costs=$work/costs
+: >"$costs"
 for edit in "$top"/crates/*/must-fail/*.edit; do
     crate=$(basename "$(dirname "$(dirname "$edit")")") label=$(basename "$edit" .edit)
     if [ $# -gt 0 ] && [[ " $* " != *" $crate "* ]]; then continue; fi

@@ -1,13 +1,28 @@
 #!/usr/bin/env bash
 # The test command. Steps in order: the kit is the one that is pinned and the documents name what is there (tools/kit,
-# tools/documents.sh); `rt ci`; the comparison tests of tools/compare, which are named here. rt's own line `N passed, 0
-# failed` is the last line printed, and only where every step passed.
+# tools/documents.sh); `rt ci`; each wrong answer was refused as its edit says (tools/edits.sh); the comparison tests of
+# tools/compare, which are named here. rt's own line `N passed, 0 failed` is the last line printed, and only where every
+# step passed.
 set -u -o pipefail
 top=$(cd "$(dirname "$0")/.." && pwd)
 comparisons=(callers.sh console.sh engine.sh faults.sh library.sh)
 
-# Runs the steps with the commands given: $1 looks at kit and documents, $2 proves, $3 compares. The last line of $2 is
-# kept for the end.
+# The checker copies what a crate depends on into TMPDIR, hundreds of megabytes a check: memory is quicker, where it
+# can be written, runs programs (rt runs them there as nobody) and has 2 GB free.
+in_memory() {
+    local folder=/dev/shm probe free status=0
+    [ -d "$folder" ] && [ -w "$folder" ] || return 1
+    free=$(df -Pk "$folder" | awk 'NR == 2 { print $4 }')
+    [ "${free:-0}" -ge 2000000 ] || return 1
+    probe=$(mktemp "$folder/probe.XXXXXX") || return 1
+    { printf '#!/bin/sh\n' >"$probe" && chmod +x "$probe" && "$probe"; } 2>/dev/null || status=1
+    rm -f "$probe"
+    return $status
+}
+if in_memory; then export TMPDIR=/dev/shm; fi
+
+# Runs the steps with the commands given: $1 looks at kit and documents, $2 proves, $3 reads the edits' logs, $4
+# compares. The last line of $2 is kept for the end.
 steps() {
     local log status last
     if ! "$1"; then
@@ -26,6 +41,10 @@ steps() {
     fi
     rm -f "$log"
     if ! "$3"; then
+        echo "test: a wrong answer was not refused as its edit says"
+        return 1
+    fi
+    if ! "$4"; then
         echo "test: a comparison test failed"
         return 1
     fi
@@ -37,6 +56,7 @@ same_kit() { [ "$1" = "$(cat "$2")" ] || { echo "test: the kit is '$1', and $2 p
 
 look() { same_kit "$(rt version)" "$top/tools/kit" && bash "$top/tools/documents.sh"; }
 prove() { (cd "$top" && rt ci); }
+edits() { bash "$top/tools/edits.sh"; }
 compare() { compare_in "$top/tools/compare"; }
 
 # Runs the comparison tests of the folder $1: just those that are named above, neither fewer nor more.
@@ -54,17 +74,18 @@ bad_line() { echo '1 passed, 1 failed'; }
 silent() { :; }
 refuses() {
     local out
-    if out=$(steps "$1" "$2" "$3"); then echo "test: the runner let $1, $2, $3 pass"; exit 1; fi
+    if out=$(steps "$@"); then echo "test: the runner let $* pass"; exit 1; fi
     if [[ $(tail -n 1 <<<"$out") =~ passed,\ 0\ failed$ ]]; then
-        echo "test: the runner reads as a pass on $1, $2, $3"
+        echo "test: the runner reads as a pass on $*"
         exit 1
     fi
 }
-refuses false good true
-refuses true bad_status true
-refuses true bad_line true
-refuses true silent true
-refuses true good false
+refuses false good true true
+refuses true bad_status true true
+refuses true bad_line true true
+refuses true silent true true
+refuses true good false true
+refuses true good true false
 
 # Comparison tests in a folder for trial: all there and passing; one missing; one failing; one too many; none at all.
 trial=$(mktemp -d)
@@ -72,22 +93,22 @@ trap 'rm -rf "$trial"' EXIT
 try() { compare_in "$trial"; }
 fill() { local name; for name in "${comparisons[@]}"; do echo true > "$trial/$name"; done; }
 fill
-steps true good try >/dev/null || { echo "test: the runner refuses passing comparisons"; exit 1; }
+steps true good true try >/dev/null || { echo "test: the runner refuses passing comparisons"; exit 1; }
 for each in "${comparisons[@]}"; do
     rm "$trial/$each"
-    refuses true good try
+    refuses true good true try
     echo false > "$trial/$each"
-    refuses true good try
+    refuses true good true try
     fill
 done
 echo true > "$trial/other.sh"
-refuses true good try
+refuses true good true try
 rm "$trial"/*
-refuses true good try
-steps true good true >/dev/null || { echo "test: the runner refuses a pass"; exit 1; }
+refuses true good true try
+steps true good true true >/dev/null || { echo "test: the runner refuses a pass"; exit 1; }
 if same_kit "another $(cat "$top/tools/kit")" "$top/tools/kit" >/dev/null; then
     echo "test: another kit is taken for the one that is pinned"
     exit 1
 fi
 
-steps look prove compare
+steps look prove edits compare
