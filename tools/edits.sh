@@ -16,7 +16,7 @@ failed=0 answers=0 files=0
 complain() { echo "edits: $crate/$label: $1"; failed=$((failed + 1)); }
 
 # What the prover says where a proof does not fit the shape of what it is about; such an error shows no fact.
-is_misfit() { grep -qE 'is checked against|that can be named from here|[Uu]nknown name|not in scope|expects? [0-9]+ argument|is not a (function|record|`)' <<<"$1"; }
+is_misfit() { grep -qE 'is checked against|was not admitted|that can be named from here|[Uu]nknown name|not in scope|expects? [0-9]+ argument|is not a (function|record|`)' <<<"$1"; }
 
 # The step at line $2 and column $3 of the file $1, as far as the words $4 go.
 stands_at() { local line; line=$(sed -n "$2p" "$1"); [ "${line:$3-1:${#4}}" = "$4" ]; }
