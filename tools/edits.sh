@@ -16,14 +16,14 @@ failed=0 answers=0 files=0
 complain() { echo "edits: $crate/$label: $1"; failed=$((failed + 1)); }
 
 # What the prover says where a proof does not fit the shape of what it is about; such an error shows no fact.
-is_misfit() { grep -qE 'is checked against|was not admitted|that can be named from here|[Uu]nknown name|not in scope|expects? [0-9]+ argument|is not a (function|record|`)' <<<"$1"; }
+is_misfit() { grep -qE 'is checked against|was not admitted|binders, but its type|that can be named from here|[Uu]nknown name|not in scope|expects? [0-9]+ argument|is not a (function|record|`)' <<<"$1"; }
 
 # The step at line $2 and column $3 of the file $1, as far as the words $4 go.
 stands_at() { local line; line=$(sed -n "$2p" "$1"); [ "${line:$3-1:${#4}}" = "$4" ]; }
 
 # The function $1 is refused at the step $2, and by itself.
 holds_function() {
-    local verdict error place
+    local verdict error place proof
     verdict=$(grep -m 1 "^fn $crate::$1: " "$log") || { complain "the log has no function $1"; return; }
     if [[ $verdict == *": proved"* ]]; then complain "$1 is still proved"; return; fi
     if [[ $verdict == *"it calls"* ]]; then complain "$1 is refused for what it calls alone"; return; fi
@@ -31,13 +31,15 @@ holds_function() {
         [[ $verdict == *"does not close \`$2\`"* ]] || complain "$1 is not refused at \`$2\`: ${verdict##*; }"
         return
     fi
-    error=$(grep -m 1 "/proofs/$1/Proof.antt:[0-9]*:[0-9]*: error: " "$log") || { complain "$1 has no error of its own"; return; }
-    place=${error#*"/proofs/$1/Proof.antt:"}
+    proof=proofs/$1/Proof.antt
+    [ -f "$edited/$proof" ] || proof=proofs/+$1/Proof.antt # where rt keeps the proof of a function that calls itself
+    error=$(grep -F -m 1 "/$proof:" <(grep ': error: ' "$log")) || { complain "$1 has no error of its own"; return; }
+    place=${error#*"/$proof:"}
     if is_misfit "$error"; then complain "the proof of $1 does not fit its shape: ${place:0:160}"; return; fi
     [[ ${place#*: error: } != "\`$2\`:"* ]] || return 0
     place=${place%%: error*}
-    stands_at "$edited/proofs/$1/Proof.antt" "${place%:*}" "${place#*:}" "$2" ||
-        complain "$1 is not refused at '$2', but at $place: $(sed -n "${place%:*}p" "$edited/proofs/$1/Proof.antt" | cut -c"${place#*:}"-)"
+    stands_at "$edited/$proof" "${place%:*}" "${place#*:}" "$2" ||
+        complain "$1 is not refused at '$2', but at $place: $(sed -n "${place%:*}p" "$edited/$proof" | cut -c"${place#*:}"-)"
 }
 
 # The law $1 has an error of its own in the log, not only one of what it cites.
