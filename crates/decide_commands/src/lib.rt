@@ -4,6 +4,7 @@ use decide_parts::Decided;
 use decide_parts::without_parts;
 use engine::Refusal;
 use message_commands::Command;
+use row_types::Counts;
 use row_types::SlotRow;
 use row_types::Supplement;
 ghost use mathlib.Core.Path.{_≡_};
@@ -21,43 +22,39 @@ ghost use Rattle.decide_parts.specs.Parts.{IsDecided};
 pub fn decide_command(
     command: Command,
     slots: [SlotRow; 8],
-    slot_count: usize,
+    counts: Counts,
     keys: [u64; 32],
-    register_count: usize,
     supplement: Supplement,
     payload: &[u8],
 ) -> Decided
-    requires { ⌜ («slot_count» ≤ 8) × («register_count» ≤ 32) × (isOneOfTen command ≡ true) ⌝ }
-    ensures { λ d. ⌜ ((c : Call) → c .slots ≡ take «slot_count» slots
-        → AreKeys (take «register_count» keys) (c .registers) → c .supplement ≡ supplement
+    requires { ⌜ (counts .slots ≤ 8) × (counts .registers ≤ 32) × (isOneOfTen command ≡ true) ⌝ }
+    ensures { λ d. ⌜ ((c : Call) → c .slots ≡ take (counts .slots) slots
+        → AreKeys (take (counts .registers) keys) (c .registers) → c .supplement ≡ supplement
         → IsDecided d (decisionFor c command (valuesOf (now (payload .entry)))) (now (payload .entry))) ⌝ }
 {
     match command {
         Command::RS => without_parts(decide_slots::decide_reset(payload)),
-        Command::KC => decide_sessions::decide_start(slots, slot_count, supplement, payload),
-        Command::KR => decide_sessions::decide_open(slots, slot_count, supplement, payload),
-        Command::KL => decide_loads::decide_load(
+        Command::KC => decide_sessions::decide_start(slots, counts.slots, supplement, payload),
+        Command::KR => decide_sessions::decide_open(slots, counts.slots, supplement, payload),
+        Command::KL => decide_loads::decide_load(slots, counts, keys, supplement, payload),
+        Command::KF => without_parts(decide_slots::decide_close(slots, counts.slots, payload)),
+        Command::KX => without_parts(decide_slots::decide_delete_slot(
             slots,
-            slot_count,
-            keys,
-            register_count,
-            supplement,
+            counts.slots,
             payload,
-        ),
-        Command::KF => without_parts(decide_slots::decide_close(slots, slot_count, payload)),
-        Command::KX => without_parts(decide_slots::decide_delete_slot(slots, slot_count, payload)),
+        )),
         Command::KD => without_parts(decide_registers::decide_delete_key(
             keys,
-            register_count,
+            counts.registers,
             payload,
         )),
         Command::GA => without_parts(decide_registers::decide_get_card(
             keys,
-            register_count,
+            counts.registers,
             payload,
         )),
         Command::GL => without_parts(decide_slots::decide_list_slots(payload)),
-        Command::KQ => without_parts(decide_slots::decide_query_slot(slots, slot_count, payload)),
+        Command::KQ => without_parts(decide_slots::decide_query_slot(slots, counts.slots, payload)),
         Command::Unknown => decide_parts::refuse(Refusal::UnknownHeader),
     }
 }

@@ -2,9 +2,11 @@
 // decides.
 use byte_bounds::Bounds;
 use decide_parts::Decided;
+use decide_payloads::Texts;
 use decide_payloads::TwoTexts;
 use engine::Decision;
 use engine::Refusal;
+use row_types::Counts;
 use row_types::Place;
 use row_types::SlotRow;
 use row_types::SlotState;
@@ -50,22 +52,21 @@ fn decide_store(
     Decision::Load(i)
 }
 
-// SM?KL, once its fields are right: slot and record stand within the bounds.
+// SM?KL, once its fields are right: the first is the slot, the second the record.
 fn decide_key(
     slots: [SlotRow; 8],
-    slot_count: usize,
+    counts: Counts,
     keys: [u64; 32],
-    register_count: usize,
     supplement: Supplement,
     payload: &[u8],
-    slot: Bounds,
-    at: Bounds,
+    texts: Texts,
 ) -> Decided
-    requires { ⌜ («slot_count» ≤ 8) × ((«register_count» ≤ 32) × BothTexts (now payload) slot at) ⌝ }
-    ensures { λ d. ⌜ ((c : Call) → c .slots ≡ take «slot_count» slots
-        → AreKeys (take «register_count» keys) (c .registers) → c .supplement ≡ supplement
+    requires { ⌜ (counts .slots ≤ 8) × ((counts .registers ≤ 32) × BothTexts (now payload) texts) ⌝ }
+    ensures { λ d. ⌜ ((c : Call) → c .slots ≡ take (counts .slots) slots
+        → AreKeys (take (counts .registers) keys) (c .registers) → c .supplement ≡ supplement
         → IsDecided d (decisionFor c KL (valuesOf (now (payload .entry)))) (now (payload .entry))) ⌝ }
 {
+    let at = texts.second;
     let start = at.start;
     let end = at.end;
     let r = &payload[start..end];
@@ -78,9 +79,10 @@ fn decide_key(
     if !read.in_form {
         return decide_parts::refuse(Refusal::BadForm);
     }
+    let slot = texts.first;
     let from = slot.start;
     let to = slot.end;
-    let place = slot_tables::slot_place(slots, slot_count, &payload[from..to]);
+    let place = slot_tables::slot_place(slots, counts.slots, &payload[from..to]);
     let Place::At(k) = place else {
         return decide_parts::refuse(Refusal::UnknownSlot);
     };
@@ -90,7 +92,7 @@ fn decide_key(
     }
     let values = read.values;
     let card = byte_bounds::part(r, fields[2]);
-    let decision = decide_store(keys, register_count, supplement, card, values);
+    let decision = decide_store(keys, counts.registers, supplement, card, values);
     let parts = decide_parts::load_parts(slot, byte_bounds::inside(at, fields[2]), values);
     Decided { decision, parts }
 }
@@ -98,40 +100,19 @@ fn decide_key(
 // SM?KL.
 pub fn decide_load(
     slots: [SlotRow; 8],
-    slot_count: usize,
+    counts: Counts,
     keys: [u64; 32],
-    register_count: usize,
     supplement: Supplement,
     payload: &[u8],
 ) -> Decided
-    requires { ⌜ («slot_count» ≤ 8) × («register_count» ≤ 32) ⌝ }
-    ensures { λ d. ⌜ ((c : Call) → c .slots ≡ take «slot_count» slots
-        → AreKeys (take «register_count» keys) (c .registers) → c .supplement ≡ supplement
+    requires { ⌜ (counts .slots ≤ 8) × (counts .registers ≤ 32) ⌝ }
+    ensures { λ d. ⌜ ((c : Call) → c .slots ≡ take (counts .slots) slots
+        → AreKeys (take (counts .registers) keys) (c .registers) → c .supplement ≡ supplement
         → IsDecided d (decisionFor c KL (valuesOf (now (payload .entry)))) (now (payload .entry))) ⌝ }
 {
     let f = decide_payloads::two_texts(payload);
-    let TwoTexts::At {
-        start,
-        end,
-        from,
-        to,
-    } = f
-    else {
+    let TwoTexts::At(texts) = f else {
         return decide_parts::refuse(Refusal::BadFields);
     };
-    let slot = Bounds { start, end };
-    let at = Bounds {
-        start: from,
-        end: to,
-    };
-    decide_key(
-        slots,
-        slot_count,
-        keys,
-        register_count,
-        supplement,
-        payload,
-        slot,
-        at,
-    )
+    decide_key(slots, counts, keys, supplement, payload, texts)
 }

@@ -15,6 +15,7 @@ use Rattle.engine.specs.declared.Refusal.{Refusal}
 use Rattle.engine.specs.declared.Decision.{Decision}
 use Rattle.engine.specs.declared.Decision.the-variants.{Refuse, Start, Open, Load}
 use Rattle.decide_payloads.specs.Payloads.{OnlyText, BothTexts}
+use Rattle.decide_payloads.specs.declared.Texts.{Texts}
 use Rattle.decide_parts.specs.Parts.{HasParts, IsDecided}
 use Rattle.decide_parts.specs.declared.Parts.{Parts}
 use Rattle.decide_parts.specs.declared.Decided.{Decided}
@@ -28,22 +29,14 @@ pub parts-of : (o : Option Refusal) (e : Decision) (p : Parts) (s : List ℕ) �
 parts-of (some r) e p s h = tt
 parts-of none e p s h = h
 
--- SM?KR, and SM?KL, granted or refused
-pub record Opens (g : Decision) : Type 0 where
+-- granted at a place, or refused; f is the name of the decision, Open or Load
+pub record Grants (f : ℕ → Decision) (g : Decision) : Type 0 where
   pub no : Option Refusal
   pub place : ℕ
-  pub is : g ≡ decided no (Open place)
+  pub is : g ≡ decided no (f place)
 
-pub opens : (o : Option Refusal) (k : ℕ) (g : Decision) → g ≡ decided o (Open k) → Opens g
-opens o k g e = record { no = o; place = k; is = e }
-
-pub record Loads (g : Decision) : Type 0 where
-  pub no : Option Refusal
-  pub place : ℕ
-  pub is : g ≡ decided no (Load place)
-
-pub loads : (o : Option Refusal) (k : ℕ) (g : Decision) → g ≡ decided o (Load k) → Loads g
-loads o k g e = record { no = o; place = k; is = e }
+pub grants : (f : ℕ → Decision) (o : Option Refusal) (k : ℕ) (g : Decision) → g ≡ decided o (f k) → Grants f g
+grants f o k g e = record { no = o; place = k; is = e }
 
 -- the record r is the only string
 module _ (s : List ℕ) (at : Bounds) (only : OnlyText s at) where
@@ -60,19 +53,22 @@ module _ (s : List ℕ) (at : Bounds) (only : OnlyText s at) where
     started b v d k p i j e q =
         record { decision-is = p ∙ q; parts-stand = rw (p, i, j) (stood (λ (u : List ℕ). nameIn (kmcIdentityIn u)) a w, stood (λ (u : List ℕ). fingerprintIn (kmcIdentityIn u)) b v) }
 
-    pub opened : (g : Decision) (p : Parts) → Opens g → (b : Bounds) → b ≡ inside at a → p .slot ≡ b → (e : Decision) → g ≡ e → IsDecided (record { decision = g; parts = p }) e s
+    pub opened : (g : Decision) (p : Parts) → Grants Open g → (b : Bounds) → b ≡ inside at a → p .slot ≡ b → (e : Decision) → g ≡ e → IsDecided (record { decision = g; parts = p }) e s
     opened g p i b j l e q =
         record { decision-is = q; parts-stand = rw (i .is) (parts-of (i .no) (Open (i .place)) p s (rw (l, j) (stood (λ (u : List ℕ). nameIn (kmcIdentityIn u)) a w))) }
 
 -- the slot and the record w are the two strings, and the card its part with the bounds c in it
-module _ (s : List ℕ) (a b : Bounds) (both : BothTexts s a b) (c : Bounds) (card : Stands (bytesIn s b) c (cardIn (bytesIn s b))) (values : List Bounds) (read : AreValues values (cardIn (bytesIn s b))) where
-  pub loaded : (g : Decision) (p : Parts) → Loads g → p .slot ≡ a → (d : Bounds) → d ≡ inside b c → p .card ≡ d → p .values ≡ values → (e : Decision) → g ≡ e
-      → IsDecided (record { decision = g; parts = p }) e s
-  loaded g p i j d l m n e q =
+module _ (s : List ℕ) (t : Texts) (both : BothTexts s t) (c : Bounds) (values : List Bounds) where
+  abbrev w : List ℕ
+  w = bytesIn s (t .second)
+
+  pub loaded : Stands w c (cardIn w) → AreValues values (cardIn w) → (g : Decision) (p : Parts) → Grants Load g → p .slot ≡ t .first → (d : Bounds) → d ≡ inside (t .second) c → p .card ≡ d → p .values ≡ values
+      → (e : Decision) → g ≡ e → IsDecided (record { decision = g; parts = p }) e s
+  loaded card read g p i j d l m n e q =
       record { decision-is = q; parts-stand = rw (i .is) (parts-of (i .no) (Load (i .place)) p s (rw j (both .first-stands), (rw (m, l) stood-card, rw n stood-values))) }
     where
-      stood-card : Stands s (inside b c) (cardIn (secondText (valuesOf s)))
-      stood-card = subst (Stands s (inside b c)) (ap cardIn (both .second-stands .1)) (stands-inside s b (both .second-stands .0) c (cardIn (bytesIn s b)) card)
+      stood-card : Stands s (inside (t .second) c) (cardIn (secondText (valuesOf s)))
+      stood-card = subst (Stands s (inside (t .second) c)) (ap cardIn (both .second-stands .1)) (stands-inside s (t .second) (both .second-stands .0) c (cardIn w) card)
 
       stood-values : AreValues values (cardIn (secondText (valuesOf s)))
       stood-values = subst (λ (u : List ℕ). AreValues values (cardIn u)) (both .second-stands .1) read

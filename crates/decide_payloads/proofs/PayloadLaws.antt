@@ -3,9 +3,10 @@ use mathlib.Core.Path.{_≡_, refl}
 use mathlib.Core.Bool.{Bool, true, false, cond}
 use mathlib.Core.List.{List, [], _∷_}
 use mathlib.Core.Option.{none, some, Option·some-injective}
-use Prim.Native.Nat.{ℕ, _-_, _≤_}
+use Prim.Native.Nat.{ℕ, _-_}
 use lib.ListN.{take, drop}
 use Rattle.byte_strings.proofs.Flags.{nope}
+use Rattle.byte_bounds.specs.Bounds.{bytesIn}
 use Rattle.field_values.specs.Values.{Value}
 use Rattle.card_entries.specs.Entries.{between}
 use Rattle.card_entries.specs.declared.Found.{Found}
@@ -13,9 +14,10 @@ use Rattle.card_entries.specs.declared.Found.the-variants as found
 use Rattle.message_commands.specs.declared.Command.{Command}
 use Rattle.message_commands.specs.declared.Command.the-variants.{RS, KC, KR, KL, KF, KX, KD, GA, GL, KQ, Unknown}
 use Rattle.engine.specs.Requests.{isAmong, areFieldsOf, firstText, secondText, registerIn}
-use Rattle.decide_payloads.specs.Payloads.{textIn, numberIn, firstTextIn, secondTextIn, countIn, firstBetween, secondBetween, TwoWithin}
+use Rattle.decide_payloads.specs.Payloads.{textIn, numberIn, firstTextIn, secondTextIn, countIn, firstBetween, secondBetween}
 use Rattle.decide_payloads.specs.declared.Count.{Count}
 use Rattle.decide_payloads.specs.declared.Count.the-variants as count
+use Rattle.decide_payloads.specs.declared.Texts.{Texts}
 use Rattle.decide_payloads.specs.declared.TwoTexts.{TwoTexts}
 use Rattle.decide_payloads.specs.declared.TwoTexts.the-variants as texts
 
@@ -91,34 +93,15 @@ module _ (p : List ℕ) (vs : List Value) (f : TwoTexts) where
   pub texts-absent : firstBetween p f ≡ firstTextIn vs → f ≡ texts.Nothing → areFieldsOf KL vs ≡ false
   texts-absent e q = none-of (areFieldsOf KL vs) (firstText vs) (rw q at e)
 
-  module _ (a b c d : ℕ) (q : f ≡ texts.At a b c d) where
-    first-both : firstBetween p f ≡ firstTextIn vs → (areFieldsOf KL vs ≡ true) × (take (b - a) (drop a p) ≡ firstText vs)
-    first-both e = some-of (areFieldsOf KL vs) (take (b - a) (drop a p)) (firstText vs) (rw q at e)
+  module _ (t : Texts) (q : f ≡ texts.At t) where
+    first-both : firstBetween p f ≡ firstTextIn vs → (areFieldsOf KL vs ≡ true) × (bytesIn p (t .first) ≡ firstText vs)
+    first-both e = some-of (areFieldsOf KL vs) (bytesIn p (t .first)) (firstText vs) (rw q at e)
 
     pub texts-present : firstBetween p f ≡ firstTextIn vs → areFieldsOf KL vs ≡ true
     texts-present e = first-both e .0
 
-    pub first-between : firstBetween p f ≡ firstTextIn vs → take (b - a) (drop a p) ≡ firstText vs
+    pub first-between : firstBetween p f ≡ firstTextIn vs → bytesIn p (t .first) ≡ firstText vs
     first-between e = first-both e .1
 
-    pub second-between : secondBetween p f ≡ secondTextIn vs → take (d - c) (drop c p) ≡ secondText vs
-    second-between e = some-of (areFieldsOf KL vs) (take (d - c) (drop c p)) (secondText vs) (rw q at e) .1
-
--- the bounds of two strings that were read
-module _ (n : ℕ) (f : TwoTexts) (w : TwoWithin n f) (a b c d : ℕ) (q : f ≡ texts.At a b c d) where
-  bounds : ((a ≤ b) × (b ≤ n)) × ((c ≤ d) × (d ≤ n))
-  bounds = rw q at w
-
-  pub first-start : a ≤ b
-  first-start = bounds .0 .0
-
-  pub first-end : b ≤ n
-  first-end = bounds .0 .1
-
-  pub second-start : c ≤ d
-  second-start = bounds .1 .0
-
-  pub second-end : d ≤ n
-  second-end = bounds .1 .1
-
-pub ruleset twoBounds = (first-start, first-end, second-start, second-end)
+    pub second-between : secondBetween p f ≡ secondTextIn vs → bytesIn p (t .second) ≡ secondText vs
+    second-between e = some-of (areFieldsOf KL vs) (bytesIn p (t .second)) (secondText vs) (rw q at e) .1

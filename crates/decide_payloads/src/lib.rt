@@ -1,6 +1,7 @@
 // A request's payload as the fields of one command (document 01, "Questions in order", 8): none, one string, one
 // number, or two strings, and nothing over. The fields come from the payload's reader; one of another type than the
 // command lists ends the reading.
+use byte_bounds::Bounds;
 use card_entries::Found;
 use field_values::Field;
 ghost use mathlib.Core.Path.{_≡_};
@@ -19,14 +20,15 @@ pub enum Count {
     Nothing,
 }
 
-// Where two strings stand: the first from start to end, the second between from and to.
+// Where two strings stand.
+pub struct Texts {
+    pub first: Bounds,
+    pub second: Bounds,
+}
+
+// Two strings that were read.
 pub enum TwoTexts {
-    At {
-        start: usize,
-        end: usize,
-        from: usize,
-        to: usize,
-    },
+    At(Texts),
     Nothing,
 }
 
@@ -77,10 +79,11 @@ pub fn two_texts(payload: &[u8]) -> TwoTexts
     else {
         return TwoTexts::Nothing;
     };
-    TwoTexts::At {
-        start,
-        end,
-        from,
-        to,
-    }
+    TwoTexts::At(Texts {
+        first: Bounds { start, end },
+        second: Bounds {
+            start: from,
+            end: to,
+        },
+    })
 }

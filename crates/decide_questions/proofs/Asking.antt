@@ -14,7 +14,7 @@ use Rattle.engine.specs.Answers.{cardPlace}
 use Rattle.engine.specs.Decisions.{decided}
 use Rattle.engine.specs.declared.Refusal.{Refusal}
 use Rattle.engine.specs.declared.Decision.{Decision}
-use Rattle.engine.specs.declared.Decision.the-variants.{Refuse, Start, Open, Load}
+use Rattle.engine.specs.declared.Decision.the-variants.{Refuse, Start, Load}
 use Rattle.decide_questions.specs.CommandQuestions.{askedOf, doneAt}
 use Rattle.decide_questions.specs.declared.Asked.{Asked}
 use Rattle.decide_questions.specs.declared.Asked.the-variants as asked
@@ -44,16 +44,12 @@ module _ {A : Type 0} (rows : List A) (o : Option ℕ) (p : Place) (e : placeOf 
   pub start-at : Start k ≡ Start (placeIn rows o)
   start-at = ap Start found-at
 
-  -- what is left to be asked was asked elsewhere
-  pub open-rest : (qs : List Question) (a : Decision) → a ≡ decided (firstNo qs) (Open k) → a ≡ decided (firstNo qs) (Open (placeIn rows o))
-  open-rest qs a w = w ∙ ap (λ (i : ℕ). decided (firstNo qs) (Open i)) found-at
-
 -- where a key is stored
 pub load-at : (card : List ℕ) (rows : List RegisterRow) (p : Place) → placeOf p ≡ storePlace (groupIn card) (revisionIn card) rows → (k : ℕ) → p ≡ At k → Load k ≡ Load (cardPlace card rows)
 unfolding cardPlace
 load-at card rows p e k z = ap Load (sym (rw (← e, z)))
 
-pub ruleset asking = (ask-no, ask-yes, ask-unplaced, ask-placed, start-at, open-rest, load-at)
+pub ruleset asking = (ask-no, ask-yes, ask-unplaced, ask-placed, start-at, load-at)
 
 -- the questions about a row, asked apart from those after them
 pub asked-apart : (ps qs : List Question) (f : ℕ → Decision) (k : ℕ) → doneAt (λ (i : ℕ). decided (firstNo qs) (f i)) (askedOf (firstNo ps) k) ≡ decided (firstNo (ps ++ qs)) (f k)

@@ -5,7 +5,7 @@ use mathlib.Core.List.{List, [], _∷_}
 use Prim.Native.Nat.{ℕ, _-_, _≤_}
 use lib.Dec.{eqb}
 use lib.ListN.{length, getD, take}
-use borrow.Author.Tests.{not-false}
+use borrow.Author.Tests.{not-true, not-false}
 use Rattle.byte_strings.proofs.Flags.{and-first, and-second}
 use Rattle.text_timestamps.specs.Timestamps.{timestampOf, isLater}
 use Rattle.field_values.specs.Values.{valuesOf}
@@ -15,7 +15,7 @@ use Rattle.text_forms.specs.Forms.{inForm}
 use Rattle.text_forms.specs.declared.Form.the-variants.{HexSome}
 use Rattle.card_incoming.specs.Incoming.{isIncoming, AreValues}
 use Rattle.record_types.specs.KeyRecords.{bar, parsesPublicKey, publicKeyInForm, parsesResponse, responseInForm, parsesKey, keyInForm}
-use Rattle.byte_bounds.specs.Bounds.{bytesIn}
+use Rattle.byte_bounds.specs.Bounds.{bytesIn, FitIn}
 use Rattle.byte_bounds.specs.declared.Bounds.{Bounds}
 use Rattle.card_entries.specs.Entries.{between, Within}
 use Rattle.card_entries.specs.declared.Found.{Found}
@@ -23,6 +23,7 @@ use Rattle.card_entries.specs.declared.Found.the-variants as found
 use Rattle.message_commands.specs.declared.Command.{Command}
 use Rattle.message_commands.specs.declared.Command.the-variants.{KC, KR, KL, KF, KX, KQ}
 use Rattle.decide_payloads.specs.Payloads.{textIn, firstTextIn, secondTextIn, firstBetween, secondBetween, TwoWithin, OnlyText, BothTexts}
+use Rattle.decide_payloads.specs.declared.Texts.{Texts}
 use Rattle.decide_payloads.specs.declared.TwoTexts.{TwoTexts}
 use Rattle.decide_payloads.specs.declared.TwoTexts.the-variants as texts
 use Rattle.decide_payloads.proofs.PayloadLaws.{text-fields, text-absent, text-present, text-between, texts-absent, texts-present, first-between, second-between}
@@ -48,7 +49,7 @@ use Rattle.decide_questions.proofs.Known.{place-below, row-named}
 use Rattle.decide_questions.proofs.Flat.{fields-refused, start-is, open-is, load-is}
 
 -- the row of a slot that was found, as the code has it
-row-at : (l : List SlotRow) (n : ℕ) → length l ≡ 8 → n ≤ 8 → (s : List ℕ) (p : Place) → placeOf p ≡ slotPlace s (take n l) → PlaceWithin n p → (k : ℕ) → p ≡ At k → (d : SlotRow) → getD l k d ≡ slotNamed s (take n l)
+pub row-at : (l : List SlotRow) (n : ℕ) → length l ≡ 8 → n ≤ 8 → (s : List ℕ) (p : Place) → placeOf p ≡ slotPlace s (take n l) → PlaceWithin n p → (k : ℕ) → p ≡ At k → (d : SlotRow) → getD l k d ≡ slotNamed s (take n l)
 row-at l n z h s p w v k o d = row-named l n k s d z h (place-below n p k v o) (sym w ∙ ap placeOf o)
 
 -- the commands with one string
@@ -95,38 +96,38 @@ module _ (c : Call) (p : List ℕ) (at : Bounds) (only : OnlyText p at) (S : Lis
           ∷ responseQuestions x r row
 
       module _ (q : t ≡ parsesResponse r) (v : u ≡ responseInForm r) where
-        pub open-then : d ≡ decided (firstNo (openLater (slotNamed name S))) (Open (placeIn S (slotPlace name S))) → d ≡ decisionFor c KR (valuesOf p)
-        open-then e = open-by (e ∙ sym (rw (← q, not-false t o, ← v, not-false u m)))
+        pub open-then : (row : SlotRow) → d ≡ decided (firstNo (openLater row)) (Open (placeIn S (slotPlace name S))) → row ≡ slotNamed name S → d ≡ decisionFor c KR (valuesOf p)
+        open-then row e at-row = open-by ((rw at-row at e) ∙ sym (rw (← q, not-false t o, ← v, not-false u m)))
 
-        -- once the slot is found
-        pub open-row-then : (b : Bool) (l : List SlotRow) (k : ℕ) (y : SlotRow) → b ≡ hasState Pending (getD l k y) → (i : ℕ) (a : Place) → PlaceWithin i a → a ≡ At k → length l ≡ 8 → i ≤ 8 → S ≡ take i l
-            → placeOf a ≡ slotPlace name S → d ≡ decided (firstNo (openLater (getD l k y))) (Open (placeIn S (slotPlace name S))) → d ≡ decisionFor c KR (valuesOf p)
-        open-row-then b l k y is i a w f z lt s-is pl e =
-            let at-row : getD l k y ≡ slotNamed name S = row-at l i z lt name a (pl ∙ ap (slotPlace name) s-is) w k f y ∙ ap (slotNamed name) (sym s-is) in
-            open-then (rw at-row at e)
+        -- once the slot is found, in row k, and its state tested
+        module _ (f : Place) (pl : placeOf f ≡ slotPlace name S) (k : ℕ) (found : f ≡ At k) (b : Bool) (row : SlotRow) (is : b ≡ hasState Pending row) where
+          pub open-state-no : not b ≡ true → d ≡ Refuse WrongState → row ≡ slotNamed name S → d ≡ decisionFor c KR (valuesOf p)
+          open-state-no held e = open-then row (e ∙ sym (rw (← pl, found, ← is, not-true b held)))
+
+          pub open-state-yes : not b ≡ false → d ≡ decided (firstNo (responseQuestions x r row)) (Open k) → row ≡ slotNamed name S → d ≡ decisionFor c KR (valuesOf p)
+          open-state-yes held e = open-then row (e ∙ sym (rw (← pl, found, ← is, not-false b held)))
 
 -- two strings: d is what the code has decided of any registers that have the keys
 module _ (c : Call) (p : List ℕ) (f : TwoTexts) (w : firstBetween p f ≡ firstTextIn (valuesOf p)) where
   pub texts-refused : f ≡ texts.Nothing → Refuse BadFields ≡ decisionFor c KL (valuesOf p)
   texts-refused o = fields-refused c KL (valuesOf p) (texts-absent p (valuesOf p) f w o)
 
-pub both-texts : (p : List ℕ) (f : TwoTexts) → firstBetween p f ≡ firstTextIn (valuesOf p) → secondBetween p f ≡ secondTextIn (valuesOf p) → TwoWithin (length p) f → (a b i j : ℕ) → f ≡ texts.At a b i j
-    → BothTexts p (record { start = a; end = b }) (record { start = i; end = j })
-both-texts p f w m v a b i j o =
-    let within = (rw o at v) in
+pub both-texts : (p : List ℕ) (f : TwoTexts) → firstBetween p f ≡ firstTextIn (valuesOf p) → secondBetween p f ≡ secondTextIn (valuesOf p) → TwoWithin (length p) f → (t : Texts) → f ≡ texts.At t → BothTexts p t
+both-texts p f w m v t o =
+    let within : FitIn (length p) (t .first) × FitIn (length p) (t .second) = (rw o at v) in
     record {
-      typed = texts-present p (valuesOf p) f a b i j o w;
-      first-stands = (within .0, first-between p (valuesOf p) f a b i j o w);
-      second-stands = (within .1, second-between p (valuesOf p) f a b i j o m);
+      typed = texts-present p (valuesOf p) f t o w;
+      first-stands = (within .0, first-between p (valuesOf p) f t o w);
+      second-stands = (within .1, second-between p (valuesOf p) f t o m);
     }
 
 -- the slot and the wrapped key are the two strings
-module _ (c : Call) (p : List ℕ) (a b : Bounds) (both : BothTexts p a b) (S : List SlotRow) (h : c .slots ≡ S) (d : Decision) (x : Supplement) (g : c .supplement ≡ x) where
+module _ (c : Call) (p : List ℕ) (z : Texts) (both : BothTexts p z) (S : List SlotRow) (h : c .slots ≡ S) (d : Decision) (x : Supplement) (g : c .supplement ≡ x) where
   abbrev slot : List ℕ
-  slot = bytesIn p a
+  slot = bytesIn p (z .first)
 
   abbrev wrapped : List ℕ
-  wrapped = bytesIn p b
+  wrapped = bytesIn p (z .second)
 
   pub load-by : d ≡ decided (firstNo (loadQuestions S (c .registers) x slot wrapped (slotNamed slot S))) (Load (cardPlace (cardIn wrapped) (c .registers))) → d ≡ decisionFor c KL (valuesOf p)
   load-by e = (rw (← h, ← g) at e) ∙ load-is c (valuesOf p) slot wrapped (both .typed) (both .first-stands .1) (both .second-stands .1)
@@ -139,22 +140,17 @@ module _ (c : Call) (p : List ℕ) (a b : Bounds) (both : BothTexts p a b) (S : 
       ∷ storeQuestions (c .registers) x (cardIn wrapped)
 
   module _ (t u : Bool) (o : not t ≡ false) (m : not u ≡ false) (q : t ≡ parsesKey wrapped) (v : u ≡ keyInForm wrapped) where
-    pub load-then : d ≡ decided (firstNo (loadLater (slotNamed slot S))) (Load (cardPlace (cardIn wrapped) (c .registers))) → d ≡ decisionFor c KL (valuesOf p)
-    load-then e = load-by (e ∙ sym (rw (← q, not-false t o, ← v, not-false u m)))
+    pub load-then : (row : SlotRow) → d ≡ decided (firstNo (loadLater row)) (Load (cardPlace (cardIn wrapped) (c .registers))) → row ≡ slotNamed slot S → d ≡ decisionFor c KL (valuesOf p)
+    load-then row e at-row = load-by ((rw at-row at e) ∙ sym (rw (← q, not-false t o, ← v, not-false u m)))
 
-    -- once the slot is found
-    pub load-row-then : (b : Bool) (l : List SlotRow) (k : ℕ) (y : SlotRow) → b ≡ hasState Loading (getD l k y) → (i : ℕ) (f : Place) → PlaceWithin i f → f ≡ At k → length l ≡ 8 → i ≤ 8 → S ≡ take i l
-        → placeOf f ≡ slotPlace slot S → d ≡ decided (firstNo (loadLater (getD l k y))) (Load (cardPlace (cardIn wrapped) (c .registers))) → d ≡ decisionFor c KL (valuesOf p)
-    load-row-then b l k y is i f w found z lt s-is pl e =
-        let at-row : getD l k y ≡ slotNamed slot S = row-at l i z lt slot f (pl ∙ ap (slotPlace slot) s-is) w k found y ∙ ap (slotNamed slot) (sym s-is) in
-        load-then (rw at-row at e)
+    -- once the slot is found and its state tested: the rest was asked of the card, by the keys of the registers
+    module _ (f : Place) (pl : placeOf f ≡ slotPlace slot S) (k : ℕ) (found : f ≡ At k) (b : Bool) (row : SlotRow) (is : b ≡ hasState Loading row) where
+      pub load-state-no : not b ≡ true → d ≡ Refuse WrongState → row ≡ slotNamed slot S → d ≡ decisionFor c KL (valuesOf p)
+      load-state-no held e = load-then row (e ∙ sym (rw (← pl, found, ← is, not-true b held)))
 
-    -- and is LOADING: the rest was asked of the card, by the keys of the registers
-    pub load-rest : (b : Bool) (l : List SlotRow) (k : ℕ) (y : SlotRow) → b ≡ hasState Loading (getD l k y) → (i : ℕ) (f : Place) → PlaceWithin i f → f ≡ At k → length l ≡ 8 → i ≤ 8 → S ≡ take i l
-        → placeOf f ≡ slotPlace slot S → not b ≡ false → (keys : List ℕ) → AreKeys keys (c .registers) → (card : List ℕ) → card ≡ cardIn wrapped
-        → ((R : List RegisterRow) → AreKeys keys R → d ≡ decided (firstNo (storeQuestions R x card)) (Load (cardPlace card R))) → d ≡ decisionFor c KL (valuesOf p)
-    load-rest b l k y is i f w found z lt s-is pl held keys keyed card same all =
-        load-row-then b l k y is i f w found z lt s-is pl ((rw same at (all (c .registers) keyed)) ∙ sym (rw (← pl, found, ← is, not-false b held)))
+      pub load-state-yes : not b ≡ false → (keys : List ℕ) → AreKeys keys (c .registers) → (card : List ℕ) → card ≡ cardIn wrapped
+          → ((R : List RegisterRow) → AreKeys keys R → d ≡ decided (firstNo (storeQuestions R x card)) (Load (cardPlace card R))) → row ≡ slotNamed slot S → d ≡ decisionFor c KL (valuesOf p)
+      load-state-yes held keys keyed card same all = load-then row ((rw same at (all (c .registers) keyed)) ∙ sym (rw (← pl, found, ← is, not-false b held)))
 
 -- the card v of a wrapped key that was found in form
 module _ (r v : List ℕ) (e : v ≡ cardIn r) (t : Bool) (o : not t ≡ false) where

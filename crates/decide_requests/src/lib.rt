@@ -3,6 +3,8 @@
 use decide_parts::Decided;
 use engine::Refusal;
 use message_commands::Command;
+use register_keys::Findings;
+use row_types::Counts;
 use row_types::SlotRow;
 use row_types::Supplement;
 ghost use mathlib.Core.Path.{_≡_};
@@ -41,29 +43,28 @@ fn is_one_of_ten(command: Command) -> bool
 // What is to be done with a request; question 3 was answered before, with what it found of the registers.
 pub fn decide(
     slots: [SlotRow; 8],
-    slot_count: usize,
-    register_count: usize,
-    sound: bool,
-    keys: [u64; 32],
+    counts: Counts,
+    findings: Findings,
     supplement: Supplement,
     request: &[u8],
     room: usize,
 ) -> Decided
     ensures { λ d. ⌜ ((R : List RegisterRow)
-        → (areCounts «slot_count» «register_count» ≡ true
-        → IsFound sound keys (take «slot_count» slots) (take «register_count» R) «register_count»)
-        → IsDecided d
-        (decisionOf (callIn (tablesWith slots «slot_count» R «register_count») supplement (now (request .entry)) room))
+        → (areCounts (counts .slots) (counts .registers) ≡ true
+        → IsFound (findings .sound) (findings .keys) (take (counts .slots) slots)
+        (take (counts .registers) R) (counts .registers))
+        → IsDecided d (decisionOf (callIn
+        (tablesWith slots (counts .slots) R (counts .registers)) supplement (now (request .entry)) room))
         (payloadOf (now (request .entry)))) ⌝ }
 {
-    let first = decide_counts::first_refusal(slot_count, register_count, room);
+    let first = decide_counts::first_refusal(counts.slots, counts.registers, room);
     if first == 1 {
         return decide_parts::refuse(Refusal::RowCounts);
     }
     if first == 2 {
         return decide_parts::refuse(Refusal::ShortBuffer);
     }
-    if !sound {
+    if !findings.sound {
         return decide_parts::refuse(Refusal::UnsoundRows);
     }
     if !row_supplements::is_well_formed(supplement) {
@@ -79,12 +80,12 @@ pub fn decide(
     if !is_one_of_ten(command) {
         return decide_parts::refuse(Refusal::UnknownHeader);
     }
+    let keys = findings.keys;
     decide_commands::decide_command(
         command,
         slots,
-        slot_count,
+        counts,
         keys,
-        register_count,
         supplement,
         message_frames::payload(request),
     )

@@ -3,6 +3,7 @@
 // the response and the change of the rows.
 use engine::Outcome;
 use register_keys::Findings;
+use row_types::Counts;
 use row_types::SlotRow;
 use row_types::Supplement;
 ghost use mathlib.Core.Path.{_≡_};
@@ -59,18 +60,12 @@ pub fn handle_cards(
         (tablesWithCards (a .slots) «slot_count» (now (cards .exit)) «register_count») ⌝ }
 {
     let f = find(slots, slot_count, cards, register_count);
-    let keys = f.keys;
     let owners = f.owners;
-    let d = decide_requests::decide(
-        slots,
-        slot_count,
-        register_count,
-        f.sound,
-        keys,
-        supplement,
-        request,
-        response.len(),
-    );
+    let counts = Counts {
+        slots: slot_count,
+        registers: register_count,
+    };
+    let d = decide_requests::decide(slots, counts, f, supplement, request, response.len());
     let decision = d.decision;
     let outcome = response_requests::outcome(decision);
     let p = message_frames::payload(request);

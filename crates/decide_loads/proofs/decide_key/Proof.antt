@@ -1,4 +1,4 @@
--- `decide_loads::decide_key` meets its contract: each return is the questions so far, in turn.
+-- `decide_loads::decide_key` meets its contract: each return is the questions so far, in turn. `first` is what is known once the record is in form, `start` what is known at the call.
 use mathlib.Core.Path.{refl}
 use native.Mathlib.Omega.{arith}
 use borrow.Author.Tests.{not-false}
@@ -6,10 +6,10 @@ use Rattle.byte_bounds.proofs.BoundsLaws.{part-fits}
 use Rattle.record_parser.proofs.FieldLaws.{found-fields, field-fits, field-is, part-is}
 use Rattle.record_types.specs.KeyRecords.{bar}
 use Rattle.engine.specs.declared.Refusal.the-variants.{BadRecord, BadForm, UnknownSlot, WrongState}
-use Rattle.decide_parts.proofs.PartLaws.{refused, loads, loaded}
+use Rattle.decide_parts.proofs.PartLaws.{refused, grants, loaded}
 use Rattle.decide_questions.proofs.Asking.{asking}
 use Rattle.decide_questions.proofs.Known.{place-in, place-fits}
-use Rattle.decide_questions.proofs.RecordLaws.{load-by, load-then, load-row-then, load-rest, card-in-form, card-values}
+use Rattle.decide_questions.proofs.RecordLaws.{row-at, load-by, load-then, load-state-no, load-state-yes, card-in-form, card-values}
 use borrow.Author.Needs.{needs}
 use Rattle.decide_loads.proofs.decide_key.Statement.{statement}
 use Rattle.decide_loads.proofs.decide_key.Tie as tie
@@ -34,30 +34,42 @@ decide-key-spec =
     (λ c. search needs)
     (λ c. search needs)
     (λ c κs. search needs)
-    (λ c k h i x. let first = c .before .before .before .before .before in refused _ UnknownSlot _ _ (search needs) (load-then _ _ _ _ (first .before .before .before .before .before .before .before .before .before .pre .1 .1) _ h _ _ x _ _ (first .before .before .before .before .if1 .left) (first .if2 .left) (first .before .before .before .before .before .before .read-key .ensures .0) (first .before .before .read-key-card .ensures .0) (search asking)))
-    (λ c. record { fits = place-fits _ (c .before .before .before .slot-place .result) _ (c .before .before .before .slot-place .ensures .1) (c .before .place .given .1) (c .before .before .before .before .before .before .before .before .before .before .before .before .before .before .pre .0) })
-    (λ c. place-in _ _ (c .before .before .before .slot-place .result) _ (c .before .before .before .slot-place .ensures .1) (c .before .place .given .1) (c .before .before .before .before .before .before .before .before .before .before .before .before .before .before .pre .0))
+    (λ c k h i x.
+    let first = c .before .before .before .before .before .before in
+    let start = first .before .before .before .before .before .before .before .before .before .before in
+    refused _ UnknownSlot _ _ (search needs) (load-then _ _ _ (start .pre .1 .1) _ h _ _ x _ _ (first .before .before .before .before .if1 .left) (first .if2 .left) (first .before .before .before .before .before .before .read-key .ensures .0) (first .before .before .read-key-card .ensures .0) _ (search asking) refl))
+    (λ c. record { fits = place-fits _ (c .before .before .before .slot-place .result) _ (c .before .before .before .slot-place .ensures .1) (c .before .place .given .1) (c .before .before .before .before .before .before .before .before .before .before .before .before .before .before .before .before .pre .0) })
+    (λ c. place-in _ _ (c .before .before .before .slot-place .result) _ (c .before .before .before .slot-place .ensures .1) (c .before .place .given .1) (c .before .before .before .before .before .before .before .before .before .before .before .before .before .before .before .before .pre .0))
     (λ c κs. search needs)
     (λ c κs. search needs)
-    (λ c k h i x. let first = c .before .before .before .before .before .before .before .before .before in refused _ WrongState _ _ (search needs) (load-row-then _ _ _ _ (first .before .before .before .before .before .before .before .before .before .pre .1 .1) _ h _ _ x _ _ (first .before .before .before .before .if1 .left) (first .if2 .left) (first .before .before .before .before .before .before .read-key .ensures .0) (first .before .before .read-key-card .ensures .0) _ _ _ _ (c .before .before .has-state .ensures) _ (c .before .before .before .before .before .before .before .slot-place .result) (c .before .before .before .before .before .before .before .slot-place .ensures .1) (search (c .before .before .before .before .before .place .given, needs)) (search (first .before .before .before .before .before .before .before .before .before .good, first .before .before .before .before .before .before .before .before .before .fits, needs)) (first .before .before .before .before .before .before .before .before .before .pre .0) refl (c .before .before .before .before .before .before .before .slot-place .ensures .0) (search asking depth 12 fits 6000)))
+    (λ c k h i x.
+    let first = c .before .before .before .before .before .before .before .before .before .before in
+    let start = first .before .before .before .before .before .before .before .before .before .before in
+    refused _ WrongState _ _ (search needs) (load-state-no _ _ _ (start .pre .1 .1) _ h _ _ x _ _ (first .before .before .before .before .if1 .left) (first .if2 .left) (first .before .before .before .before .before .before .read-key .ensures .0) (first .before .before .read-key-card .ensures .0) _ (c .before .before .before .before .before .before .before .slot-place .ensures .0) _ (c .before .before .before .before .before .place .given .1) _ _ (c .before .before .has-state .ensures) (c .before .if3 .taken) refl (row-at _ _ (search (start .good, needs)) (start .pre .0) _ (c .before .before .before .before .before .before .before .slot-place .result) (c .before .before .before .before .before .before .before .slot-place .ensures .0) (c .before .before .before .before .before .before .before .slot-place .ensures .1) _ (c .before .before .before .before .before .place .given .1) _)))
     (λ c. search needs)
-    (λ c κs. let first = c .before .before .before .before .before .before .before .before .before .before in let fields = found-fields _ _ _ _ _ (first .before .before .before .before .before .before .read-key .ensures .1) (first .before .before .before .before .if1 .left) in search (field-fits, fields, needs))
     (λ c κs.
     let first = c .before .before .before .before .before .before .before .before .before .before .before in
     let fields = found-fields _ _ _ _ _ (first .before .before .before .before .before .before .read-key .ensures .1) (first .before .before .before .before .if1 .left) in
+    search (field-fits, fields, needs))
+    (λ c κs.
+    let first = c .before .before .before .before .before .before .before .before .before .before .before .before in
+    let start = first .before .before .before .before .before .before .before .before .before .before in
+    let fields = found-fields _ _ _ _ _ (first .before .before .before .before .before .before .read-key .ensures .1) (first .before .before .before .before .if1 .left) in
     let card = part-is bar 3 _ _ fields 2 (omega arith) _ (c .part .ensures) in
-    (first .before .before .before .before .before .before .before .before .before .pre .1 .0, (card-in-form _ _ card _ (first .if2 .left) (first .before .before .read-key-card .ensures .0), card-values _ _ card _ (first .if2 .left) _ (first .before .before .read-key-card .ensures .1))))
+    (start .pre .1 .0, (card-in-form _ _ card _ (first .if2 .left) (first .before .before .read-key-card .ensures .0), card-values _ _ card _ (first .if2 .left) _ (first .before .before .read-key-card .ensures .1))))
     (λ c. search needs)
     (λ c κs.
-    let first = c .before .before .before .before .before .before .before .before .before .before .before .before .before in
+    let first = c .before .before .before .before .before .before .before .before .before .before .before .before .before .before in
+    let start = first .before .before .before .before .before .before .before .before .before .before in
     let fields = found-fields _ _ _ _ _ (first .before .before .before .before .before .before .read-key .ensures .1) (first .before .before .before .before .if1 .left) in
-    let both = first .before .before .before .before .before .before .before .before .before .pre .1 .1 in
+    let both = start .pre .1 .1 in
     (both .second-stands .0 .0, part-fits _ _ (both .second-stands .0) _ (field-fits bar 3 _ _ fields 2 (omega arith))))
     (λ c κs. search needs)
     (λ c k h i x.
-    let first = c .before .before .before .before .before .before .before .before .before .before .before .before .before .before .before in
+    let first = c .before .before .before .before .before .before .before .before .before .before .before .before .before .before .before .before in
+    let start = first .before .before .before .before .before .before .before .before .before .before in
     let fields = found-fields _ _ _ _ _ (first .before .before .before .before .before .before .read-key .ensures .1) (first .before .before .before .before .if1 .left) in
     let card = part-is bar 3 _ _ fields 2 (omega arith) _ (c .before .before .before .before .part .ensures) in
-    loaded _ _ _ (first .before .before .before .before .before .before .before .before .before .pre .1 .1) _ (field-fits bar 3 _ _ fields 2 (omega arith), field-is bar 3 _ _ fields 2 (omega arith)) _ (first .before .before .read-key-card .ensures .1 (not-false _ (first .if2 .left))) _ _ (search (loads, c .before .before .before .decide-store .ensures (k .registers) i))
+    loaded _ _ (start .pre .1 .1) _ _ (field-fits bar 3 _ _ fields 2 (omega arith), field-is bar 3 _ _ fields 2 (omega arith)) (first .before .before .read-key-card .ensures .1 (not-false _ (first .if2 .left))) _ _ (search (grants, c .before .before .before .decide-store .ensures (k .registers) i))
     (c .load-parts .ensures .0) _ (c .before .inside .ensures) (c .load-parts .ensures .1 .0) (c .load-parts .ensures .1 .1) _
-    (load-rest _ _ _ _ (first .before .before .before .before .before .before .before .before .before .pre .1 .1) _ h _ _ x _ _ (first .before .before .before .before .if1 .left) (first .if2 .left) (first .before .before .before .before .before .before .read-key .ensures .0) (first .before .before .read-key-card .ensures .0) _ _ _ _ (c .before .before .before .before .before .before .before .before .has-state .ensures) _ (c .before .before .before .before .before .before .before .before .before .before .before .before .before .slot-place .result) (c .before .before .before .before .before .before .before .before .before .before .before .before .before .slot-place .ensures .1) (search (c .before .before .before .before .before .before .before .before .before .before .before .place .given, needs)) (search (first .before .before .before .before .before .before .before .before .before .good, first .before .before .before .before .before .before .before .before .before .fits, needs)) (first .before .before .before .before .before .before .before .before .before .pre .0) refl (c .before .before .before .before .before .before .before .before .before .before .before .before .before .slot-place .ensures .0) (c .before .before .before .before .before .before .before .if3 .left) _ i _ card (c .before .before .before .decide-store .ensures))))
+    (load-state-yes _ _ _ (start .pre .1 .1) _ h _ _ x _ _ (first .before .before .before .before .if1 .left) (first .if2 .left) (first .before .before .before .before .before .before .read-key .ensures .0) (first .before .before .read-key-card .ensures .0) _ (c .before .before .before .before .before .before .before .before .before .before .before .before .before .slot-place .ensures .0) _ (c .before .before .before .before .before .before .before .before .before .before .before .place .given .1) _ _ (c .before .before .before .before .before .before .before .before .has-state .ensures) (c .before .before .before .before .before .before .before .if3 .left) _ i _ card (c .before .before .before .decide-store .ensures) (row-at _ _ (search (start .good, needs)) (start .pre .0) _ (c .before .before .before .before .before .before .before .before .before .before .before .before .before .slot-place .result) (c .before .before .before .before .before .before .before .before .before .before .before .before .before .slot-place .ensures .0) (c .before .before .before .before .before .before .before .before .before .before .before .before .before .slot-place .ensures .1) _ (c .before .before .before .before .before .before .before .before .before .before .before .place .given .1) _))))

@@ -35,4 +35,8 @@ decide-spec =
     (λ c R found. let third = found (search counts-yes) in refused _ UnknownHeader _ _ (search needs) (search header-refused))
     (λ c κs. search needs)
     (λ c κs. (search slots-within, search registers-within, search is-one-of-ten))
-    (λ c R found. let third = found (search counts-yes) in let keyed = third .1 (search not-false) in search command-decided))
+    (λ c R found.
+    let first = c .before .before .before .before .before .before .before .before .before .before .before .before .before .before .before .before .before .first-refusal .ensures in
+    let third = found (search (counts-yes, first)) in
+    let keyed = third .1 (search not-false) in
+    search (command-decided, first)))

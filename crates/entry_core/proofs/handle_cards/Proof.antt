@@ -6,7 +6,7 @@ use Rattle.entry_core.proofs.handle_cards.Tie as tie
 
 returns : tie.Need-returns
 returns c =
-    let e = ((c .before .before .before .before .before .before .before .before .before .before .before .decide .ensures) _ (c .before .before .before .before .before .before .before .before .before .before .before .before .before .before .find .ensures .0)) in
+    let e = ((c .before .before .before .before .before .before .before .before .before .before .before .decide .ensures) _ (c .before .before .before .before .before .before .before .before .before .before .before .before .before .find .ensures .0)) in
     (search (outcome-right, e), (search (responded, e), (search (rows-right, e), search needs)))
 
 pub handle-cards-spec : {M : Type 1} → statement M
@@ -17,9 +17,9 @@ handle-cards-spec =
     (λ c κs. search needs)
     (λ c κs. search needs)
     (λ c κs. search needs)
-    (λ c κs. slots-can _ _ _ _ _ _ _ _ ((c .before .before .decide .ensures) _ (c .before .before .before .before .before .find .ensures .0)) _ (c .before .before .before .before .before .find .ensures .1) _ (c .payload .ensures))
-    (λ c κs. (search needs, registers-can _ _ _ _ _ _ _ _ ((c .before .before .before .before .decide .ensures) _ (c .before .before .before .before .before .before .before .find .ensures .0)) _ (c .before .before .before .before .before .before .before .find .ensures .1) _ (c .before .before .payload .ensures)))
-    (λ c κs. (search needs, responds _ _ _ _ _ _ _ _ ((c .before .before .before .before .before .before .before .before .decide .ensures) _ (c .before .before .before .before .before .before .before .before .before .before .before .find .ensures .0)) _ (c .before .before .before .before .before .before .before .before .before .before .before .find .ensures .1) _ (c .before .before .before .before .before .before .payload .ensures) _ (c .before .before .before .change-registers .ensures .1) _ (c .before .before .before .change-registers .ensures .0)))
+    (λ c κs. slots-can _ _ _ _ _ _ _ _ ((c .before .before .decide .ensures) _ (c .before .before .before .before .find .ensures .0)) _ (c .before .before .before .before .find .ensures .1) _ (c .payload .ensures))
+    (λ c κs. (search needs, registers-can _ _ _ _ _ _ _ _ ((c .before .before .before .before .decide .ensures) _ (c .before .before .before .before .before .before .find .ensures .0)) _ (c .before .before .before .before .before .before .find .ensures .1) _ (c .before .before .payload .ensures)))
+    (λ c κs. (search needs, responds _ _ _ _ _ _ _ _ ((c .before .before .before .before .before .before .before .before .decide .ensures) _ (c .before .before .before .before .before .before .before .before .before .before .find .ensures .0)) _ (c .before .before .before .before .before .before .before .before .before .before .find .ensures .1) _ (c .before .before .before .before .before .before .payload .ensures) _ (c .before .before .before .change-registers .ensures .1) _ (c .before .before .before .change-registers .ensures .0)))
     (λ c. search needs)
     (λ c. search needs)
     returns)
