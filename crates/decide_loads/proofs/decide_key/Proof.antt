@@ -7,7 +7,7 @@ use Rattle.record_parser.proofs.FieldLaws.{found-fields, field-fits, field-is, 
 use Rattle.record_types.specs.KeyRecords.{bar}
 use Rattle.engine.specs.declared.Refusal.the-variants.{BadRecord, BadForm, UnknownSlot, WrongState}
 use Rattle.decide_parts.proofs.PartLaws.{refused, grants, loaded}
-use Rattle.decide_questions.proofs.Asking.{asking}
+use Rattle.decide_questions.proofs.Asking.{ask-no, ask-yes, ask-unplaced}
 use Rattle.decide_questions.proofs.Known.{place-in, place-fits}
 use Rattle.decide_questions.proofs.RecordLaws.{row-at, load-by, load-then, load-state-no, load-state-yes, card-in-form, card-values}
 use borrow.Author.Needs.{needs}
@@ -23,10 +23,10 @@ decide-key-spec =
     (λ c. search needs)
     (λ c κs. search needs)
     (λ c κs. search needs)
-    (λ c k h i x. refused _ BadRecord _ _ (search needs) (search (load-by, asking)))
+    (λ c k h i x. refused _ BadRecord _ _ (search needs) (search (load-by, ask-no)))
     (λ c κs. search found-fields)
     (λ c κs. search needs)
-    (λ c k h i x. refused _ BadForm _ _ (search needs) (search (load-by, asking)))
+    (λ c k h i x. refused _ BadForm _ _ (search needs) (search (load-by, ask-no, ask-yes)))
     (λ c. search needs)
     (λ c. search needs)
     (λ c. search needs)
@@ -37,7 +37,7 @@ decide-key-spec =
     (λ c k h i x.
     let first = c .before .before .before .before .before .before in
     let start = first .before .before .before .before .before .before .before .before .before .before in
-    refused _ UnknownSlot _ _ (search needs) (load-then _ _ _ (start .pre .1 .1) _ h _ _ x _ _ (first .before .before .before .before .if1 .left) (first .if2 .left) (first .before .before .before .before .before .before .read-key .ensures .0) (first .before .before .read-key-card .ensures .0) _ (search asking) refl))
+    refused _ UnknownSlot _ _ (search needs) (load-then _ _ _ (start .pre .1 .1) _ h _ _ x _ _ (first .before .before .before .before .if1 .left) (first .if2 .left) (first .before .before .before .before .before .before .read-key .ensures .0) (first .before .before .read-key-card .ensures .0) _ (search ask-unplaced) refl))
     (λ c. record { fits = place-fits _ (c .before .before .before .slot-place .result) _ (c .before .before .before .slot-place .ensures .1) (c .before .place .given .1) (c .before .before .before .before .before .before .before .before .before .before .before .before .before .before .before .before .pre .0) })
     (λ c. place-in _ _ (c .before .before .before .slot-place .result) _ (c .before .before .before .slot-place .ensures .1) (c .before .place .given .1) (c .before .before .before .before .before .before .before .before .before .before .before .before .before .before .before .before .pre .0))
     (λ c κs. search needs)

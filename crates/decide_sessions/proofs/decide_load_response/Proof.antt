@@ -5,7 +5,7 @@ use Rattle.record_types.proofs.PartLaws.{found-response}
 use Rattle.engine.specs.declared.Refusal.the-variants.{BadRecord, BadForm, UnknownSlot, WrongState}
 use Rattle.decide_parts.proofs.PartLaws.{refused, grants, opened}
 use Rattle.decide_records.proofs.WordLaws.{response-identity}
-use Rattle.decide_questions.proofs.Asking.{asking}
+use Rattle.decide_questions.proofs.Asking.{ask-no, ask-yes, ask-unplaced}
 use Rattle.decide_questions.proofs.Known.{place-in, place-fits}
 use Rattle.decide_questions.proofs.RecordLaws.{row-at, open-by, open-then, open-state-no, open-state-yes}
 use borrow.Author.Needs.{needs}
@@ -21,10 +21,10 @@ decide-load-response-spec =
     (λ c. search needs)
     (λ c κs. search needs)
     (λ c κs. search needs)
-    (λ c k h x. refused _ BadRecord _ _ (search needs) (search (open-by, asking) depth 12 fits 6000))
+    (λ c k h x. refused _ BadRecord _ _ (search needs) (search (open-by, ask-no)))
     (λ c κs. search found-response)
     (λ c κs. search needs)
-    (λ c k h x. refused _ BadForm _ _ (search needs) (search (open-by, asking) depth 12 fits 6000))
+    (λ c k h x. refused _ BadForm _ _ (search needs) (search (open-by, ask-no, ask-yes)))
     (λ c κs. search response-identity)
     (λ c κs. search needs)
     (λ c. search needs)
@@ -33,7 +33,7 @@ decide-load-response-spec =
     (λ c k h x.
     let first = c .before .before .before .before .before .before .before in
     let start = first .before .before .before .before .before .before .before in
-    refused _ UnknownSlot _ _ (search needs) (open-then _ _ _ (start .pre .1) _ h _ _ x _ _ (first .before .before .if1 .left) (first .if2 .left) (first .before .before .before .before .read-response .ensures .0) (first .before .is-response-in-form .ensures) _ (search asking) refl))
+    refused _ UnknownSlot _ _ (search needs) (open-then _ _ _ (start .pre .1) _ h _ _ x _ _ (first .before .before .if1 .left) (first .if2 .left) (first .before .before .before .before .read-response .ensures .0) (first .before .is-response-in-form .ensures) _ (search ask-unplaced) refl))
     (λ c. search (place-fits, needs))
     (λ c. search (place-in, needs))
     (λ c κs. search needs)

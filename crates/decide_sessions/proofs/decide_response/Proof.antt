@@ -1,5 +1,5 @@
 -- `decide_sessions::decide_response` meets its contract: each return is the questions so far, in turn.
-use Rattle.decide_questions.proofs.Asking.{asking}
+use Rattle.decide_questions.proofs.Asking.{ask-no, ask-yes}
 use borrow.Author.Needs.{needs}
 use Rattle.decide_sessions.proofs.decide_response.Statement.{statement}
 use Rattle.decide_sessions.proofs.decide_response.Tie as tie
@@ -9,11 +9,11 @@ decide-response-spec =
     tie.close
     (tie.spec
     (λ c κs. search needs)
-    (λ c. search asking depth 8 fits 2000)
+    (λ c. search ask-no)
     (λ c κs. search needs)
-    (λ c. search asking depth 8 fits 2000)
+    (λ c. search (ask-no, ask-yes))
     (λ c κs. search needs)
-    (λ c. search asking depth 8 fits 2000)
+    (λ c. search (ask-no, ask-yes))
     (λ c κs. search needs)
-    (λ c. search asking depth 8 fits 2000)
-    (λ c. search asking depth 8 fits 2000))
+    (λ c. search (ask-no, ask-yes))
+    (λ c. search ask-yes))
