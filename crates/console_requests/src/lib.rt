@@ -46,7 +46,7 @@ fn hand_in(console: Console, number: u64, request: &[u8], out: &mut [u8]) -> Ste
     let tables = console.tables;
     let slots = tables.slots;
     let registers = tables.registers;
-    let a = entry_numbers::answer(
+    let a = entry_numbers::answer_rows(
         slots,
         tables.slot_count,
         registers,

@@ -29,7 +29,7 @@ pub extern "C" fn diminurel_handle(
             length: 0,
         };
     }
-    let a = entry_numbers::answer(
+    let a = entry_numbers::answer_rows(
         row_lending::load_slots(slots),
         slots.len(),
         row_lending::load_registers(registers),

@@ -1,13 +1,15 @@
-// The two answers over tables by value, in numbers, for the library's entry points and the console: what the core
-// answers of a request, and which key may vend. Numbers stand in place of enums (document 01, "Where an answer is an
-// enum, a definition gives this paper's number and values for each of its cases").
+// The two answers in numbers, for the library's entry points and the console: what the core answers of a request, over
+// lent cards and over tables by value, and which key may vend. Numbers stand in place of enums (document 01, "Where an
+// answer is an enum, a definition gives this paper's number and values for each of its cases").
 use engine::Outcome;
+use row_types::Counts;
 use row_types::RegisterRow;
 use row_types::SlotRow;
 use row_types::Supplement;
 use row_types::Tables;
 ghost use mathlib.Core.Path.{_≡_};
-ghost use Rattle.row_index.specs.Lent.{tablesWith};
+ghost use lib.ListN.{length};
+ghost use Rattle.row_index.specs.Lent.{tablesWith, tablesWithCards};
 ghost use Rattle.engine.specs.Calls.{answerOver};
 ghost use Rattle.engine.specs.Usable.{isUsable};
 ghost use Rattle.entry_numbers.specs.Numbers.{stateByte, yesByte};
@@ -22,8 +24,14 @@ pub struct Reply {
     pub length: usize,
 }
 
-// A reply, and the rows after it.
+// A reply, and the slot rows after it.
 pub struct Answered {
+    pub reply: Reply,
+    pub slots: [SlotRow; 8],
+}
+
+// A reply, and the rows after it.
+pub struct AnsweredRows {
     pub reply: Reply,
     pub slots: [SlotRow; 8],
     pub registers: [RegisterRow; 32],
@@ -39,28 +47,28 @@ fn state_byte(outcome: Outcome) -> u8
     }
 }
 
-// Handles a request over tables by value: places for 8 and 32 rows, of which the first slot_count and register_count
-// are the caller's. Every input is answered. The cards are lent to the core from here.
+// Handles a request over slot rows and lent cards, which are changed in place: places for 8 and 32 rows, of which the
+// first are the caller's, as many as the counts say. Every input is answered.
 pub fn answer(
     slots: [SlotRow; 8],
-    slot_count: usize,
-    registers: [RegisterRow; 32],
-    register_count: usize,
+    counts: Counts,
+    cards: &mut [[u8; 256]],
     supplement: Supplement,
     request: &[u8],
     response: &mut [u8],
 ) -> Answered
-    ensures { λ a. ⌜ Replies (tablesWith slots «slot_count» registers «register_count»)
-        (answerOver (tablesWith slots «slot_count» registers «register_count») supplement request response)
+    requires { ⌜ length (now cards) ≡ 32 ⌝ }
+    ensures { λ a. ⌜ Replies (tablesWithCards slots (counts .slots) (now (cards .entry)) (counts .registers))
+        (answerOver (tablesWithCards slots (counts .slots) (now (cards .entry)) (counts .registers))
+        supplement request response)
         (now (response .entry)) (now (response .exit)) (a .reply)
-        (tablesWith (a .slots) «slot_count» (a .registers) «register_count») ⌝ }
+        (tablesWithCards (a .slots) (counts .slots) (now (cards .exit)) (counts .registers)) ⌝ }
 {
-    let mut cards = register_tables::cards_of(registers);
     let a = entry_core::handle_cards(
         slots,
-        slot_count,
-        &mut cards,
-        register_count,
+        counts.slots,
+        cards,
+        counts.registers,
         supplement,
         request,
         response,
@@ -71,9 +79,38 @@ pub fn answer(
         state: state_byte(o),
         length: a.length,
     };
+    let after = a.slots;
+    Answered {
+        reply,
+        slots: after,
+    }
+}
+
+// The same over register rows by value, whose cards are lent from here.
+pub fn answer_rows(
+    slots: [SlotRow; 8],
+    slot_count: usize,
+    registers: [RegisterRow; 32],
+    register_count: usize,
+    supplement: Supplement,
+    request: &[u8],
+    response: &mut [u8],
+) -> AnsweredRows
+    ensures { λ a. ⌜ Replies (tablesWith slots «slot_count» registers «register_count»)
+        (answerOver (tablesWith slots «slot_count» registers «register_count») supplement request response)
+        (now (response .entry)) (now (response .exit)) (a .reply)
+        (tablesWith (a .slots) «slot_count» (a .registers) «register_count») ⌝ }
+{
+    let counts = Counts {
+        slots: slot_count,
+        registers: register_count,
+    };
+    let mut cards = register_tables::cards_of(registers);
+    let a = answer(slots, counts, &mut cards, supplement, request, response);
+    let reply = a.reply;
     let slots_after = a.slots;
     let registers_after = register_tables::rows_of(cards);
-    Answered {
+    AnsweredRows {
         reply,
         slots: slots_after,
         registers: registers_after,

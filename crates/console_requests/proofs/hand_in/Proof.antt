@@ -19,7 +19,7 @@ hand-in-spec =
     (λ c κs. search needs)
     (λ c. search needs)
     (λ c.
-    let y = c .before .before .before .before .before .before .before .before .before .before .answer .ensures in
+    let y = c .before .before .before .before .before .before .before .before .before .before .answer-rows .ensures in
     let z = c .before .before .before .before .before .before .before .before .before .before .before .before .before .before .before .before .dots .ensures in
     let k = c .before .before .before .before .before .before .before .before .before .before .before .before .before .before .before .room .ensures in (
       next-state _ _ _ _ _ _ _ y z (k .1) (k .0) _ (c .with-tables .ensures),

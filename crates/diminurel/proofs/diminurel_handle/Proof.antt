@@ -45,14 +45,14 @@ use Rattle.engine.specs.Answers.{answerOf}
 use Rattle.engine.specs.Calls.{callIn}
 use Rattle.entry_numbers.specs.Replies.{Replies}
 use Rattle.entry_numbers.specs.declared.Reply.{Reply}
-use Rattle.entry_numbers.specs.declared.Answered.{Answered}
+use Rattle.entry_numbers.specs.declared.AnsweredRows.{AnsweredRows}
 use Rattle.entry_numbers.proofs.Reply as reply
 use Rattle.entry_numbers.proofs.Reply.Laws as reply′
-use Rattle.entry_numbers.proofs.Answered as answered
-use Rattle.entry_numbers.proofs.Answered.Laws as answered′
-use Rattle.entry_numbers.proofs.answer as answer
-use Rattle.entry_numbers.proofs.answer.Symbol as answer-def
-use Rattle.entry_numbers.proofs.answer.Met as answer-thm
+use Rattle.entry_numbers.proofs.AnsweredRows as answered
+use Rattle.entry_numbers.proofs.AnsweredRows.Laws as answered′
+use Rattle.entry_numbers.proofs.answer_rows as answer
+use Rattle.entry_numbers.proofs.answer_rows.Symbol as answer-def
+use Rattle.entry_numbers.proofs.answer_rows.Met as answer-thm
 use Rattle.diminurel.specs.Handles.{Handles}
 use Rattle.diminurel.proofs.LentLaws.{loaded, stored, kept, refused-first}
 use Rattle.diminurel.proofs.diminurel_handle as entry
@@ -87,7 +87,7 @@ xval = LL.val supplement.the-type supplement′.the-laws
 abbrev yval : Reply → Val
 yval = LL.val reply.the-type reply′.the-laws
 
-abbrev aval : Answered → Val
+abbrev aval : AnsweredRows → Val
 aval = LL.val answered.the-type answered′.the-laws
 
 module _ {M : Type 1} (𝓤 : URA M) (H : Heap 𝓤) (A : Atoms 𝓤) (mem : Memory → SProp 𝓤) (run : Routine → Fun 𝓤) where
@@ -142,7 +142,7 @@ module _ {M : Type 1} (𝓤 : URA M) (H : Heap 𝓤) (A : Atoms 𝓤) (mem : Mem
       abbrev Post : Val → SProp 𝓤
       Post = walkOf 𝓤 H A entry.ended stayed (entry.clauses 𝓤 H A mem run) .post (((κ₀, (κ₁, (κ₂, (κ₃, tt)))), (q₀, (q₁, (q₂, (q₃, tt)))), tt, a, at), tt)
 
-      -- the number that questions 1 and 2 come to, the tables, and what `answer` ensures of its result r and of the response w
+      -- the number that questions 1 and 2 come to, the tables, and what `answer_rows` ensures of its result r and of the response w
       abbrev f : ℕ
       f = firstRefusal (length yS) (length yR) (length yO)
 
@@ -152,7 +152,7 @@ module _ {M : Type 1} (𝓤 : URA M) (H : Heap 𝓤) (A : Atoms 𝓤) (mem : Mem
       abbrev t : List RegisterRow
       t = registerTable yR
 
-      abbrev Replied : Answered → List ℕ → Type 0
+      abbrev Replied : AnsweredRows → List ℕ → Type 0
       Replied r w = Replies (loaded yS yR) (answerOf (callIn (loaded yS yR) c (xQ .now) (length yO))) yO w (r .reply) (tablesWith (r .slots) (length yS) (r .registers) (length yR))
 
       -- what it is passed, and that it is had
@@ -248,7 +248,7 @@ module _ {M : Type 1} (𝓤 : URA M) (H : Heap 𝓤) (A : Atoms 𝓤) (mem : Mem
             ++ unset answered′.mir l₇ ++ holds (tyInt w8) l₆ (vint w8 f) ++ Passed ++ Owned
 
         -- and once the tables are answered with r and w and the rows are zS and zR: the slots, the registers, what closes each, the response, the tokens, and the locals
-        abbrev After : Answered → List ℕ → List SlotRow → List RegisterRow → List (Item 𝓤)
+        abbrev After : AnsweredRows → List ℕ → List SlotRow → List RegisterRow → List (Item 𝓤)
         After r w zS zR = ‵ (row slot.the-row fullShare zS bS oS) ∷ ‵ (fobor κ₀ q₀ (Held slot.the-row (length yS) bS oS γS)) ∷ ‵ (fobs γS (codedHoleys slot.the-row .code (heres slot.the-row yS))) ∷ ‵ (fauth γS (codedHoleys slot.the-row .code (heres slot.the-row yS)))
             ∷ ‵ (row register.the-row fullShare zR bR oR) ∷ ‵ (fobor κ₁ q₁ (Held register.the-row (length yR) bR oR γR)) ∷ ‵ (fobs γR (codedHoleys register.the-row .code (heres register.the-row yR))) ∷ ‵ (fauth γR (codedHoleys register.the-row .code (heres register.the-row yR)))
             ∷ ‵ (finally u8 γO w) ∷ ‵ (flft κ₂ q₂) ∷ ‵ (flft κ₃ q₃)
@@ -283,7 +283,7 @@ module _ {M : Type 1} (𝓤 : URA M) (H : Heap 𝓤) (A : Atoms 𝓤) (mem : Mem
             first-is = LL.owes reply.the-type reply′.the-laws first (f-is, ((refl, lit< tt), ((refl, lit< tt), tt)))
 
         -- the reply is returned, with the rows zS and zR
-        replies : (q : Kit.Post 𝓤 H) → Kit.post 𝓤 H q returned ≡ atReturn 𝓤 H E Post returned → (r : Answered) (w : List ℕ) (zS : List SlotRow) (zR : List RegisterRow) → Is answered.the-row r (aval r ∷ []) → length zS ≡ length yS → length zR ≡ length yR → length w ≡ length yO
+        replies : (q : Kit.Post 𝓤 H) → Kit.post 𝓤 H q returned ≡ atReturn 𝓤 H E Post returned → (r : AnsweredRows) (w : List ℕ) (zS : List SlotRow) (zR : List RegisterRow) → Is answered.the-row r (aval r ∷ []) → length zS ≡ length yS → length zR ≡ length yR → length w ≡ length yO
             → Handles (record { slots = yS; registers = yR }) (record { request = xQ .now; supplement = c; before = yO; after = w; outcome = r .reply .outcome; state = r .reply .state; size = r .reply .length }) (record { slots = zS; registers = zR })
             → Sq W (After r w zS zR) (runs (𝓣 .C) (𝓣 .Λ) E mir.t-26 q)
         replies q e r w zS zR is lenS lenR lenO promised =
@@ -298,7 +298,7 @@ module _ {M : Type 1} (𝓤 : URA M) (H : Heap 𝓤) (A : Atoms 𝓤) (mem : Mem
             reply-is = LL.owed answered.the-type answered′.the-laws r _ is .0
 
         -- the rows are stored
-        stores : T (not (not (eqb f 0))) → (r : Answered) (w : List ℕ) → Is answered.the-row r (aval r ∷ []) → length w ≡ length yO → Replied r w → Sq W (After r w yS yR) (runs (𝓣 .C) (𝓣 .Λ) E mir.t-20 (atRet E Post))
+        stores : T (not (not (eqb f 0))) → (r : AnsweredRows) (w : List ℕ) → Is answered.the-row r (aval r ∷ []) → length w ≡ length yO → Replied r w → Sq W (After r w yS yR) (runs (𝓣 .C) (𝓣 .Λ) E mir.t-20 (atRet E Post))
         stores asked r w is lenO replied =
             -- the slots are lent to the function that stores them
             assigns ! (addr ! (from ! (fld ! refl (hop ! (look-in ! 57 (sub ! 0 refl (whole !))) (stop !))))) (from ! (stop !)) (init ! 17 refl (tt, tt)) $
@@ -410,6 +410,6 @@ diminurel-handle-spec 𝓤 H 𝓜 𝓖 𝓡 =
     (cited 𝓤 H (AsksFirst 𝓤 H (𝓖 .A) (𝓜 .mem) (𝓡 .run)) 𝓜 𝓡 code.env asks-first-def.name asks-first-def.routine code.calls-decide-counts·first-refusal (asks-first-thm.met 𝓤 H 𝓜 𝓖 𝓡))
     (cited 𝓤 H (LoadSlots 𝓤 H (𝓖 .A) (𝓜 .mem) (𝓡 .run)) 𝓜 𝓡 code.env load-slots-def.name load-slots-def.routine code.calls-row-lending·load-slots (load-slots-thm.met 𝓤 H 𝓜 𝓖 𝓡))
     (cited 𝓤 H (LoadRegisters 𝓤 H (𝓖 .A) (𝓜 .mem) (𝓡 .run)) 𝓜 𝓡 code.env load-registers-def.name load-registers-def.routine code.calls-row-lending·load-registers (load-registers-thm.met 𝓤 H 𝓜 𝓖 𝓡))
-    (cited 𝓤 H (Answers 𝓤 H (𝓖 .A) (𝓜 .mem) (𝓡 .run)) 𝓜 𝓡 code.env answer-def.name answer-def.routine code.calls-entry-numbers·answer (answer-thm.met 𝓤 H 𝓜 𝓖 𝓡))
+    (cited 𝓤 H (Answers 𝓤 H (𝓖 .A) (𝓜 .mem) (𝓡 .run)) 𝓜 𝓡 code.env answer-def.name answer-def.routine code.calls-entry-numbers·answer-rows (answer-thm.met 𝓤 H 𝓜 𝓖 𝓡))
     (cited 𝓤 H (StoreSlots 𝓤 H (𝓖 .A) (𝓜 .mem) (𝓡 .run)) 𝓜 𝓡 code.env store-slots-def.name store-slots-def.routine code.calls-row-lending·store-slots (store-slots-thm.met 𝓤 H 𝓜 𝓖 𝓡))
     (cited 𝓤 H (StoreRegisters 𝓤 H (𝓖 .A) (𝓜 .mem) (𝓡 .run)) 𝓜 𝓡 code.env store-registers-def.name store-registers-def.routine code.calls-row-lending·store-registers (store-registers-thm.met 𝓤 H 𝓜 𝓖 𝓡)))
