@@ -33,7 +33,7 @@ fn put_registers(dst: &mut [u8], at: usize, t: Tables, registers: [RegisterRow; 
     let mut i = 0;
     while i < 32 {
         let row = registers[i];
-        let yes = entry_usable::is_usable(t, i + 1);
+        let yes = entry_usable::is_usable_in(t, i + 1);
         end = console_shown_rows::put_register(dst, end, i, yes, row);
         i += 1;
     }

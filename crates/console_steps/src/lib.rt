@@ -18,7 +18,7 @@ fn say(console: Console, number: u64, line: Line, out: &mut [u8]) -> usize
     match line {
         Line::Rows => console_rows::put_rows(out, console.tables),
         Line::Usable(k) => {
-            let yes = entry_usable::is_usable(console.tables, k);
+            let yes = entry_usable::is_usable_in(console.tables, k);
             console_answers::put_usable(out, number, yes)
         }
         Line::Show => console_show::put_show(out, console.tables),

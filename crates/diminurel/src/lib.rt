@@ -55,7 +55,7 @@ pub extern "C" fn diminurel_usable(
 ) -> u8
     ensures { λ n. ⌜ n ≡ yesByte (isUsable (lentTables (now (slots .entry)) (now (registers .entry))) register) ⌝ }
 {
-    entry_numbers::usable(
+    entry_numbers::usable_rows(
         row_lending::load_slots(slots),
         slots.len(),
         row_lending::load_registers(registers),

@@ -1,12 +1,11 @@
-// The two answers in numbers, for the library's entry points and the console: what the core answers of a request, over
-// lent cards and over tables by value, and which key may vend. Numbers stand in place of enums (document 01, "Where an
-// answer is an enum, a definition gives this paper's number and values for each of its cases").
+// The two answers in numbers, for the library's entry points and the console: what the core answers of a request, and
+// which key may vend; each over lent cards, and over register rows by value. Numbers stand in place of enums (document
+// 01, "Where an answer is an enum, a definition gives this paper's number and values for each of its cases").
 use engine::Outcome;
 use row_types::Counts;
 use row_types::RegisterRow;
 use row_types::SlotRow;
 use row_types::Supplement;
-use row_types::Tables;
 ghost use mathlib.Core.Path.{_≡_};
 ghost use lib.ListN.{length};
 ghost use Rattle.row_index.specs.Lent.{tablesWith, tablesWithCards};
@@ -117,8 +116,20 @@ pub fn answer_rows(
     }
 }
 
-// Whether the key in a register may vend, over tables by value.
-pub fn usable(
+// Whether the key in a register may vend, over slot rows and lent cards.
+pub fn usable(slots: [SlotRow; 8], counts: Counts, cards: &[[u8; 256]], register: usize) -> u8
+    requires { ⌜ length (now cards) ≡ 32 ⌝ }
+    ensures { λ n. ⌜ n ≡ yesByte
+        (isUsable (tablesWithCards slots (counts .slots) (now (cards .entry)) (counts .registers)) register) ⌝ }
+{
+    if entry_usable::is_usable(slots, counts, cards, register) {
+        return 1;
+    }
+    0
+}
+
+// The same over register rows by value, whose cards are lent from here.
+pub fn usable_rows(
     slots: [SlotRow; 8],
     slot_count: usize,
     registers: [RegisterRow; 32],
@@ -128,14 +139,10 @@ pub fn usable(
     ensures { λ n. ⌜ n
         ≡ yesByte (isUsable (tablesWith slots «slot_count» registers «register_count») register) ⌝ }
 {
-    let tables = Tables {
-        slots,
-        registers,
-        slot_count,
-        register_count,
+    let counts = Counts {
+        slots: slot_count,
+        registers: register_count,
     };
-    if entry_usable::is_usable(tables, register) {
-        return 1;
-    }
-    0
+    let cards = register_tables::cards_of(registers);
+    usable(slots, counts, &cards, register)
 }

@@ -1,4 +1,4 @@
--- Which key may vend, return by return. S and R are the rows of the tables t, cards those of all places, os the numbers of their owners.
+-- Which key may vend, return by return. S and R are the rows of the tables t, whose places have the slot rows and the lent cards; os are the numbers of their owners.
 use mathlib.Core.Path.{_≡_, refl, sym, ap, _∙_}
 use mathlib.Core.Bool.{Bool, true, false, not, _&&_}
 use mathlib.Core.List.{List, map}
@@ -23,15 +23,22 @@ use Rattle.row_types.specs.declared.Tables.{Tables}
 use Rattle.row_types.proofs.ListLaws.{found, every-at}
 use Rattle.row_types.proofs.PlaceCounts.{getD-any}
 use Rattle.row_index.specs.Found.{ownerNumber}
-use Rattle.row_index.specs.Lent.{cardIn, rowsWith}
-use Rattle.row_index.proofs.LentLaws.{take-short, rows-lent}
+use Rattle.row_index.specs.Lent.{cardIn, rowWith, rowsWith, tablesWithCards}
+use Rattle.row_index.proofs.LentLaws.{rows-front, tables-again}
 use Rattle.row_index.proofs.OwnerLaws.{free-number, filled-number, owner-at}
 use Rattle.engine.specs.Questions.{areCounts, slotNamed, registerNumbered, isFilled}
 use Rattle.engine.specs.Usable.{isUsable}
 
 -- the cards of the rows are lent, and a register among them is one of 32 places
-pub lent-few : (m : ℕ) (cards : List (List ℕ)) → m ≤ 32 → length (take m cards) ≤ 32
-lent-few m cards h = omega (arith, take-short m cards)
+module _ (m : ℕ) (cards : List (List ℕ)) (z : length cards ≡ 32) (h : m ≤ 32) where
+  lent-long : length (take m cards) ≡ m
+  lent-long = length-take-le m cards (omega arith)
+
+  pub lent-few : length (take m cards) ≤ 32
+  lent-few = omega (arith, lent-long)
+
+  pub lent-front : m ≡ length (take m cards)
+  lent-front = sym lent-long
 
 pub in-places : (i m : ℕ) → i ≤ m → m ≤ 32 → i ≤ 32
 in-places i m l h = omega arith
@@ -52,26 +59,23 @@ free-owned : (S : List SlotRow) → isOwned S freeRegister ≡ true
 unfolding isOwned isVacant freeRegister areAll
 free-owned S = refl
 
-module _ (t : Tables) (i : ℕ) (a : Bool) (p : a ≡ areCounts (t .«slot_count») (t .«register_count»)) where
-  abbrev n : ℕ
-  n = t .«slot_count»
-
-  abbrev m : ℕ
-  m = t .«register_count»
+module _ (slots : List SlotRow) (n : ℕ) (cards : List (List ℕ)) (m i : ℕ) (a : Bool) (p : a ≡ areCounts n m) where
+  abbrev t : Tables
+  t = tablesWithCards slots n cards m
 
   abbrev S : List SlotRow
-  S = take n (t .slots)
+  S = take n slots
 
   abbrev R : List RegisterRow
-  R = take m (t .registers)
+  R = take m (rowsWith cards)
 
   pub counts-no : not a ≡ true → false ≡ isUsable t i
   unfolding isUsable
   counts-no o = sym (rw (← p, not-true a o))
 
-  module _ (o : not a ≡ false) (cards : List (List ℕ)) (w : cards ≡ map cardIn (t .registers)) (b : Bool) (q : b ≡ areSound S (rowsWith (take m cards))) where
+  module _ (o : not a ≡ false) (b : Bool) (q : b ≡ areSound S (rowsWith (take m cards))) where
     sound-is : b ≡ areSound S R
-    sound-is = q ∙ ap (areSound S) (rows-lent (t .registers) m cards w)
+    sound-is = q ∙ ap (areSound S) (rows-front m cards)
 
     pub sound-no : not b ≡ true → false ≡ isUsable t i
     unfolding isUsable
@@ -87,24 +91,21 @@ module _ (t : Tables) (i : ℕ) (a : Bool) (p : a ≡ areCounts (t .«slot_count
       unfolding isFilled
       first-no h = left false (sym (rw (lt-leb 1 i h)))
 
-      module _ (z : length (t .registers) ≡ 32) (r : m ≤ 32) (h : 1 ≤ i) where
+      module _ (z : length cards ≡ 32) (r : m ≤ 32) (h : 1 ≤ i) where
         rows-long : length R ≡ m
-        rows-long = length-take-le m (t .registers) (omega arith)
+        rows-long = length-take-le m (rowsWith cards) (omega (arith, length-map cards rowWith))
 
         pub beyond-no : m < i → false ≡ isUsable t i
         unfolding isFilled
         beyond-no k = left false (sym (rw (le-leb 1 i h, rows-long, lt-leb i m k)))
 
         module _ (k : i ≤ m) (os : List ℕ) (v : b ≡ true → take (length (take m cards)) os ≡ map (ownerNumber (map keptName S)) (rowsWith (take m cards))) where
-          cards-long : length (take m cards) ≡ m
-          cards-long = length-take-le m cards (rw (w, length-map (t .registers) cardIn) (omega arith))
-
           abbrev row : RegisterRow
           row = getD R (i - 1) freeRegister
 
           owner-is : getD os (i - 1) 0 ≡ ownerNumber (map keptName S) row
           owner-is =
-              let e : take m os ≡ map (ownerNumber (map keptName S)) R = rw (cards-long, rows-lent (t .registers) m cards w) at (v (not-false b u)) in
+              let e : take m os ≡ map (ownerNumber (map keptName S)) R = rw (lent-long m cards z r, rows-front m cards) at (v (not-false b u)) in
               sym (getD-take m os (i - 1) 0 (omega arith)) ∙ ap (λ (l : List ℕ). getD l (i - 1) 0) e ∙ owner-at (map keptName S) R (i - 1)
 
           all-sound : areSound S R ≡ true
@@ -136,15 +137,19 @@ module _ (t : Tables) (i : ℕ) (a : Bool) (p : a ≡ areCounts (t .«slot_count
               place-below : j - 1 < length S
               place-below = found (isNamed (attributeOf KSL row)) freeSlot S (j - 1) (named .1) .0
 
-              module _ (y : length (t .slots) ≡ 8) (l : n ≤ 8) where
+              module _ (y : length slots ≡ 8) (l : n ≤ 8) where
                 slots-long : length S ≡ n
-                slots-long = length-take-le n (t .slots) (omega arith)
+                slots-long = length-take-le n slots (omega arith)
 
                 pub owner-low : j ≤ 8
                 owner-low = omega (arith, place-below, slots-long)
 
-                pub idle-decides : (c : Bool) → c ≡ hasState Idle (getD (t .slots) (j - 1) freeSlot) → c ≡ isUsable t i
+                pub idle-decides : (c : Bool) → c ≡ hasState Idle (getD slots (j - 1) freeSlot) → c ≡ isUsable t i
                 unfolding isFilled slotNamed
                 idle-decides c e =
-                    let s : getD S (j - 1) freeSlot ≡ getD (t .slots) (j - 1) freeSlot = getD-take n (t .slots) (j - 1) freeSlot (omega (arith, place-below, slots-long)) in
+                    let s : getD S (j - 1) freeSlot ≡ getD slots (j - 1) freeSlot = getD-take n slots (j - 1) freeSlot (omega (arith, place-below, slots-long)) in
                     left c (e ∙ sym (rw (le-leb 1 i h, rows-long, le-leb i m k, named .0, named .1, s)))
+
+-- is_usable_in: the cards of the rows are lent
+pub usable-in : (t : Tables) (cards : List (List ℕ)) → cards ≡ map cardIn (t .registers) → (i : ℕ) (b : Bool) → b ≡ isUsable (tablesWithCards (t .slots) (t .«slot_count») cards (t .«register_count»)) i → b ≡ isUsable t i
+usable-in t cards w i b e = e ∙ ap (λ (u : Tables). isUsable u i) (tables-again (t .slots) (t .«slot_count») (t .registers) (t .«register_count») cards w)

@@ -1,12 +1,14 @@
 // Which key may vend (document 01, "Slots and registers": "a register's key may vend exactly when its slot is IDLE").
+use row_types::Counts;
 use row_types::SlotRow;
 use row_types::SlotState;
 use row_types::Tables;
 ghost use mathlib.Core.Path.{_≡_};
 ghost use Prim.Native.Nat.{_-_, _≤_};
-ghost use lib.ListN.{getD};
+ghost use lib.ListN.{length, getD};
 ghost use Rattle.row_types.specs.Slots.{hasState, freeSlot};
 ghost use Rattle.row_types.specs.declared.SlotState.the-variants.{Idle};
+ghost use Rattle.row_index.specs.Lent.{tablesWithCards};
 ghost use Rattle.engine.specs.Usable.{isUsable};
 
 // The number of a register's owner; 0 of a free register.
@@ -25,18 +27,17 @@ fn is_idle(slots: [SlotRow; 8], number: usize) -> bool
     slot_tests::has_state(slots[number - 1], SlotState::Idle)
 }
 
-// Whether the key in a register, counted from 1, may vend.
-pub fn is_usable(tables: Tables, register: usize) -> bool
-    ensures { λ b. ⌜ b ≡ isUsable tables register ⌝ }
+// Whether the key in a register, counted from 1, may vend, over slot rows and lent cards.
+pub fn is_usable(slots: [SlotRow; 8], counts: Counts, cards: &[[u8; 256]], register: usize) -> bool
+    requires { ⌜ length (now cards) ≡ 32 ⌝ }
+    ensures { λ b. ⌜ b
+        ≡ isUsable (tablesWithCards slots (counts .slots) (now (cards .entry)) (counts .registers)) register ⌝ }
 {
-    let n = tables.slot_count;
-    let m = tables.register_count;
+    let n = counts.slots;
+    let m = counts.registers;
     if !decide_counts::are_counts(n, m) {
         return false;
     }
-    let slots = tables.slots;
-    let registers = tables.registers;
-    let cards = register_tables::cards_of(registers);
     let f = row_soundness::find(slots, n, &cards[..m]);
     if !f.sound {
         return false;
@@ -53,4 +54,18 @@ pub fn is_usable(tables: Tables, register: usize) -> bool
         return false;
     }
     is_idle(slots, owner)
+}
+
+// The same over tables by value, whose cards are lent from here.
+pub fn is_usable_in(tables: Tables, register: usize) -> bool
+    ensures { λ b. ⌜ b ≡ isUsable tables register ⌝ }
+{
+    let slots = tables.slots;
+    let registers = tables.registers;
+    let counts = Counts {
+        slots: tables.slot_count,
+        registers: tables.register_count,
+    };
+    let cards = register_tables::cards_of(registers);
+    is_usable(slots, counts, &cards, register)
 }

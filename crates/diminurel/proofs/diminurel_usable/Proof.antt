@@ -19,9 +19,9 @@ use Rattle.row_lending.proofs.load_registers.Symbol as load-registers-def
 use Rattle.row_lending.proofs.load_registers.Met as load-registers-thm
 use Rattle.engine.specs.Usable.{isUsable}
 use Rattle.entry_numbers.specs.Numbers.{yesByte}
-use Rattle.entry_numbers.proofs.usable as usable
-use Rattle.entry_numbers.proofs.usable.Symbol as usable-def
-use Rattle.entry_numbers.proofs.usable.Met as usable-thm
+use Rattle.entry_numbers.proofs.usable_rows as usable
+use Rattle.entry_numbers.proofs.usable_rows.Symbol as usable-def
+use Rattle.entry_numbers.proofs.usable_rows.Met as usable-thm
 use Rattle.diminurel.proofs.LentLaws.{loaded, same-usable}
 use Rattle.diminurel.proofs.diminurel_usable as entry
 use Rattle.diminurel.proofs.diminurel_usable.Key.{name}
@@ -142,4 +142,4 @@ diminurel-usable-spec 𝓤 H 𝓜 𝓖 𝓡 =
     (meets 𝓤 H (𝓖 .A) (𝓜 .mem) (𝓡 .run) (givenOf 𝓤 H 𝓜 𝓖) (tablesOf 𝓤 H 𝓜 (tables 𝓤 H 𝓜 𝓡 code.env))
     (cited 𝓤 H (LoadSlots 𝓤 H (𝓖 .A) (𝓜 .mem) (𝓡 .run)) 𝓜 𝓡 code.env load-slots-def.name load-slots-def.routine code.calls-row-lending·load-slots (load-slots-thm.met 𝓤 H 𝓜 𝓖 𝓡))
     (cited 𝓤 H (LoadRegisters 𝓤 H (𝓖 .A) (𝓜 .mem) (𝓡 .run)) 𝓜 𝓡 code.env load-registers-def.name load-registers-def.routine code.calls-row-lending·load-registers (load-registers-thm.met 𝓤 H 𝓜 𝓖 𝓡))
-    (cited 𝓤 H (Usable 𝓤 H (𝓖 .A) (𝓜 .mem) (𝓡 .run)) 𝓜 𝓡 code.env usable-def.name usable-def.routine code.calls-entry-numbers·usable (usable-thm.met 𝓤 H 𝓜 𝓖 𝓡)))
+    (cited 𝓤 H (Usable 𝓤 H (𝓖 .A) (𝓜 .mem) (𝓡 .run)) 𝓜 𝓡 code.env usable-def.name usable-def.routine code.calls-entry-numbers·usable-rows (usable-thm.met 𝓤 H 𝓜 𝓖 𝓡)))

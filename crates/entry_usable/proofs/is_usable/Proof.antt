@@ -1,8 +1,6 @@
 -- `entry_usable::is_usable` meets its contract, a law a return.
-use Rattle.row_types.proofs.PlaceCounts.{eight, thirty-two}
 use Rattle.decide_counts.proofs.CountLaws.{few-slots, few-registers}
-use Rattle.row_soundness.proofs.SoundLaws.{filled-room, filled-front}
-use Rattle.entry_usable.proofs.UsableLaws.{lent-few, in-places, counts-no, sound-no, first-no, beyond-no, free-no, owner-some, owner-low, idle-decides}
+use Rattle.entry_usable.proofs.UsableLaws.{lent-few, lent-front, in-places, counts-no, sound-no, first-no, beyond-no, free-no, owner-some, owner-low, idle-decides}
 use borrow.Author.Needs.{needs}
 use Rattle.entry_usable.proofs.is_usable.Statement.{statement}
 use Rattle.entry_usable.proofs.is_usable.Tie as tie
@@ -13,14 +11,12 @@ is-usable-spec =
     (tie.spec
     (λ c κs. search needs)
     (λ c. search counts-no)
-    (λ c κs. search needs)
-    (λ c. search (filled-room, few-registers, thirty-two, needs))
-    (λ c. search (filled-front, few-registers, thirty-two, needs))
+    (λ c. search (lent-front, few-registers))
     (λ c κs. (search few-slots, search (lent-few, few-registers)))
     (λ c. search sound-no)
     (λ c. search first-no)
-    (λ c. search (beyond-no, few-registers, thirty-two))
-    (λ c κs. (search needs, in-places _ _ (c .before .if4 .left) (few-registers _ _ _ (c .before .before .before .before .before .before .before .before .before .before .before .are-counts .ensures) (c .before .before .before .before .before .before .before .before .before .before .if1 .left))))
-    (λ c. search (free-no, few-registers, thirty-two))
-    (λ c κs. (search (owner-some, few-registers, thirty-two), search (owner-low, few-slots, few-registers, eight, thirty-two)))
-    (λ c. search (idle-decides, few-slots, few-registers, eight, thirty-two)))
+    (λ c. search (beyond-no, few-registers))
+    (λ c κs. (search needs, in-places _ _ (c .before .if4 .left) (few-registers _ _ _ (c .before .before .before .before .before .before .before .before .are-counts .ensures) (c .before .before .before .before .before .before .before .if1 .left))))
+    (λ c. search (free-no, few-registers))
+    (λ c κs. (search (owner-some, few-registers), search (owner-low, few-slots, few-registers)))
+    (λ c. search (idle-decides, few-slots, few-registers)))
