@@ -46,10 +46,6 @@ module _ (f : ℕ → List ℕ) (at k m : ℕ) (inv : at + length (cardBytes (dr
     count-turn d g b w = omega (arith, here, w .next, entry-length (name a) v)
 
 -- write_stored
-module _ (xs e : List ℕ) (b : ℕ) (w : Wrote (replicate 256 0) 0 xs e b) where
-  pub in-row : length xs ≤ 256 → e ≡ inRow xs
-  unfolding inRow
-  in-row h = from-start w (rw length-replicate h) ∙ ap (λ (l : List ℕ). xs ++ l) (drop-replicate (length xs) 256 0)
-
-  pub row-length : b ≡ length xs
-  row-length = omega (arith, w .next)
+pub in-row : (xs e : List ℕ) (b : ℕ) → Wrote (replicate 256 0) 0 xs e b → length xs ≤ 256 → e ≡ inRow xs
+unfolding inRow
+in-row xs e b w h = from-start w (rw length-replicate h) ∙ ap (λ (l : List ℕ). xs ++ l) (drop-replicate (length xs) 256 0)

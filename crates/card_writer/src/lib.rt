@@ -107,30 +107,20 @@ fn put_stored<'a>(
     at
 }
 
-// A card in 256 bytes, zero after its end, and how long it is.
-pub struct Stored {
-    pub card: [u8; 256],
-    pub length: usize,
-}
-
-// The card that a load stores of an incoming one, its values at the bounds that were found.
+// The card that a load stores of an incoming one, its values at the bounds that were found: 256 bytes, zero after its
+// end.
 pub fn write_stored<'a>(
     card: &'a [u8],
     values: [Bounds; 15],
     check: &'a [u8],
     slot: &'a [u8],
-) -> Stored
+) -> [u8; 256]
     requires { ⌜ AreValues values (now card)
         × (length (storedCard (now card) (loadValues (now check) (now slot))) ≤ 256) ⌝ }
-    ensures { λ r. ⌜ r .card
+    ensures { λ r. ⌜ r
         ≡ inRow (storedCard (now (card .entry)) (loadValues (now (check .entry)) (now (slot .entry)))) ⌝ }
-    ensures measured { λ r. ⌜ r .length
-        ≡ length (storedCard (now (card .entry)) (loadValues (now (check .entry)) (now (slot .entry)))) ⌝ }
 {
     let mut row = [0u8; 256];
-    let n = put_stored(&mut row, card, values, check, slot);
-    Stored {
-        card: row,
-        length: n,
-    }
+    put_stored(&mut row, card, values, check, slot);
+    row
 }

@@ -187,9 +187,8 @@ fn show_card(s: &[u8]) {
         return;
     }
     let values = read.values;
-    let r = card_writer::write_stored(s, values, b"92E101", b"KMC1");
-    let n = r.length;
-    let card = r.card;
+    let card = card_writer::write_stored(s, values, b"92E101", b"KMC1");
+    let n = byte_pieces::piece_end(&card, 0, 0);
     say(b"  ");
     say_front(&card, n);
     say(b"\n");

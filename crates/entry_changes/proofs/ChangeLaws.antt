@@ -1,12 +1,12 @@
 -- Each case of a decision, with what the code knows where it answers as premises.
-use mathlib.Core.Path.{_≡_, refl, sym, ap, _∙_}
+use mathlib.Core.Path.{_≡_, refl, ap, _∙_}
 use mathlib.Core.List.{List, [], _∷_}
 use Prim.Native.Nat.{ℕ, _+_, _*_, _^_, _≤_, _<_}
 use native.Mathlib.Omega.{arith}
 use types.Run.{OneOf, miss}
 use denote.Enum.Declared.{tagOf}
 use lib.ListN.{length, getD, set, take, replicate}
-use lib.Seq.{length-take-le, take-at}
+use lib.Seq.{length-take-le}
 use Rattle.field_values.specs.Values.{Value, valuesOf}
 use Rattle.byte_bounds.specs.declared.Bounds.{Bounds}
 use Rattle.card_incoming.specs.Incoming.{AreValues}
@@ -14,7 +14,6 @@ use Rattle.card_stored.specs.Stored.{loadValues, storedCard, inRow}
 use Rattle.row_types.specs.Lists.{mapped}
 use Rattle.row_types.specs.Slots.{freeSlot, filledSlot, movedSlot, resetSlot}
 use Rattle.row_types.specs.Registers.{freeRegister, filledRegister}
-use Rattle.card_writer.specs.declared.Stored.{Stored}
 use Rattle.row_types.specs.declared.SlotRow.{SlotRow}
 use Rattle.row_types.specs.declared.RegisterRow.{RegisterRow}
 use Rattle.row_types.specs.declared.Supplement.{Supplement}
@@ -31,7 +30,7 @@ use Rattle.decide_parts.specs.declared.Parts.{Parts}
 use Rattle.row_index.specs.Lent.{rowWith, rowsWith}
 use Rattle.register_tables.specs.Freed.{freed}
 use Rattle.register_tables.proofs.FreedLaws.{freed-rows}
-use Rattle.entry_changes.specs.Changes.{slotsAfter, registersAfter, CanChangeSlots, CanChangeRegisters, HasStored}
+use Rattle.entry_changes.specs.Changes.{slotsAfter, registersAfter, CanChangeSlots, CanChangeRegisters}
 
 -- pending_row
 pub row-made : (u u′ v v′ clock : List ℕ) (r : SlotRow) → u ≡ u′ → v ≡ v′ → r ≡ filledSlot Pending u v clock → r ≡ filledSlot Pending u′ v′ clock
@@ -51,9 +50,6 @@ module _ (card u check slot v : List ℕ) (e : card ≡ u) (f : slot ≡ v) wher
 
   pub card-made : (r : List ℕ) → r ≡ inRow (storedCard card (loadValues check slot)) → r ≡ inRow (loadedCard u check v)
   card-made r p = p ∙ ap inRow same-card
-
-  pub card-measured : (n : ℕ) → n ≡ length (storedCard card (loadValues check slot)) → n ≡ length (loadedCard u check v)
-  card-measured n p = p ∙ ap length same-card
 
 -- a slot row takes 73 bytes, a card 256
 slot-fits : (k : ℕ) → k < 8 → k * 73 < 2 ^ 64
@@ -197,25 +193,3 @@ module _ (d : Decision) (m : ℕ) (owners : List ℕ) (l : List (List ℕ)) (x :
     pub delete-key-made : rowsWith (set l k (replicate 256 0)) ≡ registersAfter d m (rowsWith l) x vs
     unfolding freeRegister
     delete-key-made = rw e (map-set rowWith l k (replicate 256 0))
-
--- the card that was stored
-pub has-stored : (d : Decision) (x : Supplement) (vs : List Value) (s : Stored) → s .card ≡ inRow (cardOf x vs) → s .length ≡ length (cardOf x vs) → length (cardOf x vs) ≤ 256 → HasStored d s x vs
-unfolding inRow
-has-stored d x vs s e n h k p = (omega (arith, n), (rw e (take-at (cardOf x vs) _ (s .length) (sym n))))
-
--- no other decision is a load
-module _ (d : Decision) (x : Supplement) (vs : List Value) (s : Stored) where
-  pub delete-slot-stores-none : (j : ℕ) → d ≡ DeleteSlot j → HasStored d s x vs
-  delete-slot-stores-none j e k p =
-      let a : tagOf the-type d ≡ 4 = rw p refl in
-      let b : tagOf the-type d ≡ 6 = rw e refl in
-      absurd (omega (arith, a, b))
-
-  pub delete-key-stores-none : (j : ℕ) → d ≡ DeleteKey j → HasStored d s x vs
-  delete-key-stores-none j e k p =
-      let a : tagOf the-type d ≡ 4 = rw p refl in
-      let b : tagOf the-type d ≡ 7 = rw e refl in
-      absurd (omega (arith, a, b))
-
-  pub stores-none : OneOf registerless (tagOf the-type d) → HasStored d s x vs
-  stores-none o k p = absurd (miss registerless 4 tt (rw p at o))

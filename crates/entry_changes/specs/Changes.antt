@@ -1,14 +1,12 @@
 -- The rows after a decision (document 01, Slots and registers): n slot rows and m register rows are the caller's, l are
 -- the places that hold them, x is the supplement, vs are the request's fields, k is the place of a row, counted from 0.
 use Prim.Native.Nat.{ℕ, _+_, _≤_, _<_}
-use mathlib.Core.Path.{_≡_}
 use mathlib.Core.List.{List}
 use lib.ListN.{length, getD, set, take}
 use Rattle.field_values.specs.Values.{Value, valuesOf}
 use Rattle.row_types.specs.Lists.{mapped}
 use Rattle.row_types.specs.Slots.{freeSlot, movedSlot, resetSlot}
 use Rattle.row_types.specs.Registers.{freeRegister, filledRegister, withoutSlot}
-use Rattle.card_writer.specs.declared.Stored.{Stored}
 use Rattle.row_types.specs.declared.SlotRow.{SlotRow}
 use Rattle.row_types.specs.declared.RegisterRow.{RegisterRow}
 use Rattle.row_types.specs.declared.Supplement.{Supplement}
@@ -93,7 +91,3 @@ CanChangeRegisters (DeleteKey k) p m owners l x s = k < 32
 CanChangeRegisters (GetCard k) p m owners l x s = Unit {0}
 CanChangeRegisters ListSlots p m owners l x s = Unit {0}
 CanChangeRegisters (QuerySlot k) p m owners l x s = Unit {0}
-
--- the card that SM?KL stored, in as much of the space as it is long
-abbrev pub HasStored : Decision → Stored → Supplement → List Value → Type 0
-HasStored d s x vs = (k : ℕ) → d ≡ Load k → (s .length ≤ 256) × (take (s .length) (s .card) ≡ cardOf x vs)

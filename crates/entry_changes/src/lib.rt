@@ -1,6 +1,5 @@
 // The rows after a decision (document 01, "Slots and registers"). The tables are changed in one place, and a row at
 // a time but for the two sweeps.
-use card_writer::Stored;
 use decide_parts::Decided;
 use decide_parts::Parts;
 use engine::Decision;
@@ -15,7 +14,7 @@ ghost use Rattle.card_stored.specs.Stored.{inRow};
 ghost use Rattle.row_index.specs.Lent.{rowsWith};
 ghost use Rattle.decide_parts.specs.Parts.{pendingRow, cardOf, StartParts, LoadParts};
 ghost use Rattle.entry_changes.specs.Changes.{slotsAfter, registersAfter};
-ghost use Rattle.entry_changes.specs.Changes.{CanChangeSlots, CanChangeRegisters, HasStored};
+ghost use Rattle.entry_changes.specs.Changes.{CanChangeSlots, CanChangeRegisters};
 
 // The row that SM?KC makes: PENDING, with the record's KMCID and fingerprint and the clock as TVP.
 fn pending_row(parts: Parts, clock: &[u8], payload: &[u8]) -> SlotRow
@@ -71,22 +70,11 @@ pub fn change_slots(
     }
 }
 
-// No card.
-fn no_card() -> Stored
-    ensures { λ s. ⌜ s .length ≡ 0 ⌝ }
-{
-    Stored {
-        card: [0; 256],
-        length: 0,
-    }
-}
-
 // The card that SM?KL stores: of the card at its bounds, with the slot as KSL.
-fn loaded_card(parts: Parts, supplement: Supplement, payload: &[u8]) -> Stored
+fn loaded_card(parts: Parts, supplement: Supplement, payload: &[u8]) -> [u8; 256]
     requires { ⌜ LoadParts parts (now payload)
         × (length (cardOf supplement (valuesOf (now payload))) ≤ 256) ⌝ }
-    ensures { λ r. ⌜ r .card ≡ inRow (cardOf supplement (valuesOf (now (payload .entry)))) ⌝ }
-    ensures measured { λ r. ⌜ r .length ≡ length (cardOf supplement (valuesOf (now (payload .entry)))) ⌝ }
+    ensures { λ r. ⌜ r ≡ inRow (cardOf supplement (valuesOf (now (payload .entry)))) ⌝ }
 {
     let values = parts.values;
     card_writer::write_stored(
@@ -98,8 +86,7 @@ fn loaded_card(parts: Parts, supplement: Supplement, payload: &[u8]) -> Stored
 }
 
 // Changes the cards of the register rows, the first register_count of them the caller's, by a decision on a request
-// with a payload; owners are the numbers of the slots that own them. Answers the card that SM?KL stored, so that
-// its response need not make it again.
+// with a payload; owners are the numbers of the slots that own them.
 pub fn change_registers(
     decided: Decided,
     cards: &mut [[u8; 256]],
@@ -107,30 +94,24 @@ pub fn change_registers(
     owners: [usize; 32],
     supplement: Supplement,
     payload: &[u8],
-) -> Stored
+)
     requires { ⌜ (length (now cards) ≡ 32)
         × CanChangeRegisters (decided .decision) (decided .parts) «register_count» owners (rowsWith (now cards))
         supplement (now payload) ⌝ }
     ensures { λ _. ⌜ rowsWith (now (cards .exit))
         ≡ registersAfter (decided .decision) «register_count» (rowsWith (now (cards .entry))) supplement
         (valuesOf (now (payload .entry))) ⌝ }
-    ensures stored { λ s. ⌜ HasStored (decided .decision) s supplement (valuesOf (now (payload .entry))) ⌝ }
 {
     let decision = decided.decision;
     match decision {
         Decision::Load(k) => {
-            let s = loaded_card(decided.parts, supplement, payload);
-            let card = s.card;
-            cards[k] = card;
-            s
+            cards[k] = loaded_card(decided.parts, supplement, payload);
         }
         Decision::DeleteSlot(k) => {
             register_tables::free_owned(cards, owners, register_count, k + 1);
-            no_card()
         }
         Decision::DeleteKey(k) => {
             cards[k] = [0; 256];
-            no_card()
         }
         Decision::Refuse(_)
         | Decision::Reset
@@ -139,6 +120,6 @@ pub fn change_registers(
         | Decision::Close(_)
         | Decision::GetCard(_)
         | Decision::ListSlots
-        | Decision::QuerySlot(_) => no_card(),
+        | Decision::QuerySlot(_) => {}
     }
 }

@@ -7,11 +7,17 @@ use Prim.Native.Nat.{ℕ, _+_, _≤_, _<_}
 use native.Mathlib.Omega.{arith}
 use lib.Dec.{leb}
 use lib.ListN.{length, getD, take}
+use lib.Seq.{getD-set-same}
 use borrow.Author.Tests.{leb-true}
+use borrow.Table.Elements.{take-le}
 use Rattle.byte_strings.proofs.Flags.{nope, and-first, and-second}
 use Rattle.byte_strings.proofs.StringLaws.{same-equal}
 use Rattle.text_timestamps.specs.Timestamps.{isTimestamp}
+use Rattle.text_classes.specs.Classes.{areAll}
 use Rattle.text_classes.proofs.Identify.{name-short}
+use Rattle.text_decimals.specs.Decimals.{isNumber, isUnpadded}
+use Rattle.card_stored.specs.Stored.{loadValues}
+use Rattle.card_laws.proofs.Incoming.{stored-measured}
 use Rattle.field_values.specs.Values.{Value}
 use Rattle.text_forms.specs.Forms.{inForm}
 use Rattle.text_forms.specs.declared.Form.the-variants.{Name}
@@ -22,7 +28,9 @@ use Rattle.record_types.specs.KeyRecords.{bar, publicKeyInForm, responseInForm}
 use Rattle.message_commands.specs.declared.Command.{Command}
 use Rattle.message_commands.specs.declared.Command.the-variants.{RS, KC, KR, KL, KF, KX, KD, GA, GL, KQ}
 use Rattle.row_types.specs.Supplements.{isWellFormed, isIdentityRight, isLoadRequestRight}
-use Rattle.row_types.specs.Lists.{everyRow}
+use Rattle.row_types.specs.Lists.{everyRow, trimmed}
+use Rattle.row_types.specs.Registers.{freeRegister, filledRegister}
+use Rattle.row_types.specs.RowReplies.{storedIn}
 use Rattle.row_types.specs.Slots.{hasState, kmcidOf, isNamed, isSlotSound, freeSlot}
 use Rattle.row_types.specs.Sound.{areSound}
 use Rattle.row_types.specs.Index.{keptName}
@@ -32,7 +40,6 @@ use Rattle.row_types.specs.declared.SlotState.the-variants.{Free}
 use Rattle.row_types.proofs.ListLaws.{found}
 use Rattle.row_index.specs.Found.{ownerNumber, AreOwnedBy}
 use Rattle.row_index.specs.Lent.{tablesWith}
-use Rattle.card_writer.specs.declared.Stored.{Stored}
 use Rattle.row_index.proofs.LentLaws.{take-short}
 use Rattle.row_index.proofs.OwnerLaws.{owned-by-number}
 use Rattle.row_types.specs.declared.Supplement.{Supplement}
@@ -47,13 +54,14 @@ use Rattle.engine.specs.declared.Decision.{Decision}
 use Rattle.engine.specs.declared.Decision.the-variants.{Refuse, Reset, Start, Open, Load, Close, DeleteSlot, DeleteKey, GetCard, ListSlots, QuerySlot}
 use Rattle.engine.proofs.DecisionLaws.{refused-first}
 use Rattle.engine.proofs.RefusalLaws.{isUnwritten, isOwn, Group, of-tables, of-message, of-later, refusal-group, tables-unwritten, message-general}
-use Rattle.engine.proofs.Steps.{is-short}
+use Rattle.engine.specs.Answers.{loadedCard}
+use Rattle.engine.proofs.Steps.{is-short, is-card, is-check, is-name}
 use Rattle.response_refusals.specs.RefusalForms.{CanRefuse}
 use Rattle.response_refusals.proofs.RefusalLaws.{can-tell}
 use Rattle.decide_parts.specs.Parts.{cardOf, HasParts}
 use Rattle.decide_parts.specs.declared.Parts.{Parts}
 use Rattle.response_requests.specs.Responding.{HasRoom, CanRespond}
-use Rattle.entry_changes.specs.Changes.{registersAfter, CanChangeSlots, CanChangeRegisters, HasStored}
+use Rattle.entry_changes.specs.Changes.{registersAfter, CanChangeSlots, CanChangeRegisters}
 use Rattle.engine.proofs.Places.{filled-below}
 use Rattle.decide_counts.proofs.CountLaws.{slots-few, registers-few}
 use Rattle.entry_core.specs.Owners.{AreOwners}
@@ -112,6 +120,14 @@ module _ (c : Call) where
   unfolding recordIn slotIn
   loaded-short k e = is-short c (fieldsIn (c .request)) (asked-of c (Load k) e refl)
 
+  -- without the zeros after it, the row's card is the stored one
+  loaded-shown : (k : ℕ) → decisionOf c ≡ Load k → storedIn (filledRegister (cardOf (c .supplement) (fieldsIn (c .request)))) ≡ cardOf (c .supplement) (fieldsIn (c .request))
+  unfolding recordIn slotIn filledRegister loadedCard trimmed areAll isNumber isUnpadded
+  loaded-shown k e =
+      let vs = fieldsIn (c .request) in
+      let y = asked-of c (Load k) e refl in
+      stored-measured (cardIn (recordIn KL vs)) (is-card c vs y) (loadValues (c .supplement .check) (slotIn KL vs)) refl (is-check c vs y) (is-name c vs y) refl
+
 -- a slot that was found, and the KMCID that its row keeps
 found-at : (s : List ℕ) (l : List SlotRow) (k : ℕ) → isPlace (slotPlace s l) ≡ true → placeIn l (slotPlace s l) ≡ k → slotPlace s l ≡ some k
 found-at s l k e p = go (slotPlace s l) refl e p
@@ -153,6 +169,11 @@ module _ (t : Tables) (x : Supplement) (q : List ℕ) (room : ℕ) (owners : Lis
       let y = asked-of k₀ (Load k) e refl in
       register-place KL y k _ (load-place k₀ k e) (card-below (cardIn (recordIn KL vs)) (k₀ .registers) (y .home))
 
+  load-within : (k : ℕ) → decisionOf k₀ ≡ Load k → k < length (t .registers)
+  load-within k e =
+      let h = card-below (cardIn (recordIn KL vs)) (k₀ .registers) (asked-of k₀ (Load k) e refl .home) in
+      omega (arith, take-le (t .«register_count») (t .registers), h, load-place k₀ k e)
+
   delete-slot-low : (k : ℕ) → decisionOf k₀ ≡ DeleteSlot k → k < 8
   delete-slot-low k e =
       let y = asked-of k₀ (DeleteSlot k) e refl in
@@ -175,29 +196,29 @@ module _ (t : Tables) (x : Supplement) (q : List ℕ) (room : ℕ) (owners : Lis
   abbrev after : Decision → Tables
   after d = tablesWith (t .slots) (t .«slot_count») (registersAfter d (t .«register_count») (t .registers) x vs) (t .«register_count»)
 
-  pub can-respond : (d : Decision) → decisionOf k₀ ≡ d → (p : Parts) → HasParts d p (payloadOf q) → (c : Stored) → HasStored d c x vs → CanRespond d p (after d) owners c x q room
+  pub can-respond : (d : Decision) → decisionOf k₀ ≡ d → (p : Parts) → HasParts d p (payloadOf q) → CanRespond d p (after d) owners x q room
   unfolding recordIn
-  can-respond (Refuse r) e p h c w = tells k₀ r e
-  can-respond Reset e p h c w = has-room k₀ RS (asked-of k₀ Reset e refl)
-  can-respond (Start k) e p h c w =
+  can-respond (Refuse r) e p h = tells k₀ r e
+  can-respond Reset e p h = has-room k₀ RS (asked-of k₀ Reset e refl)
+  can-respond (Start k) e p h =
       let y = asked-of k₀ (Start k) e refl in
       (has-room k₀ KC y, (h, (public-short (firstText vs) (and-first (publicKeyInForm (firstText vs)) true (y .form)), request-short x (y .supplement))))
-  can-respond (Open k) e p h c w =
+  can-respond (Open k) e p h =
       let y = asked-of k₀ (Open k) e refl in
       (has-room k₀ KR y, (h, response-short (firstText vs) (and-first (responseInForm (firstText vs)) true (y .form))))
-  can-respond (Load k) e p h c w =
+  can-respond (Load k) e p h =
       let y = asked-of k₀ (Load k) e refl in
-      (has-room k₀ KL y, (w k refl .0, (w k refl .1, load-low k e)))
-  can-respond (Close k) e p h c w = has-room k₀ KF (asked-of k₀ (Close k) e refl)
-  can-respond (DeleteSlot k) e p h c w = has-room k₀ KX (asked-of k₀ (DeleteSlot k) e refl)
-  can-respond (DeleteKey k) e p h c w = has-room k₀ KD (asked-of k₀ (DeleteKey k) e refl)
-  can-respond (GetCard k) e p h c w =
+      (has-room k₀ KL y, (ap storedIn (getD-set-same (t .registers) k (filledRegister (cardOf x vs)) freeRegister (load-within k e)) ∙ loaded-shown k₀ k e, load-low k e))
+  can-respond (Close k) e p h = has-room k₀ KF (asked-of k₀ (Close k) e refl)
+  can-respond (DeleteSlot k) e p h = has-room k₀ KX (asked-of k₀ (DeleteSlot k) e refl)
+  can-respond (DeleteKey k) e p h = has-room k₀ KD (asked-of k₀ (DeleteKey k) e refl)
+  can-respond (GetCard k) e p h =
       let y = asked-of k₀ (GetCard k) e refl in
       (has-room k₀ GA y, register-place GA y k _ (get-card-place k₀ k e) (filled-below (registerIn vs) (k₀ .registers) (y .filled)))
-  can-respond ListSlots e p h c w =
+  can-respond ListSlots e p h =
       let y = asked-of k₀ ListSlots e refl in
       (has-room k₀ GL y, slots-few (t .«slot_count») (t .«register_count») (y .counts))
-  can-respond (QuerySlot k) e p h c w =
+  can-respond (QuerySlot k) e p h =
       let y = asked-of k₀ (QuerySlot k) e refl in
       let found = queried-at k e in
       (has-room k₀ KQ y, (slot-place KQ y k _ (query-slot-place k₀ k e) (slot-below (slotIn KQ vs) (k₀ .slots) (y .known)), (registers-few (t .«slot_count») (t .«register_count») (y .counts), rw (kept-at (slotIn KQ vs) (t .«slot_count») (t .slots) k found) (owned-at KQ y (slotIn KQ vs) k found))))

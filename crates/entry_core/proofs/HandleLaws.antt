@@ -15,7 +15,6 @@ use Rattle.row_types.specs.declared.Supplement.{Supplement}
 use Rattle.row_types.specs.declared.Tables.{Tables}
 use Rattle.row_types.specs.declared.SlotRow.{SlotRow}
 use Rattle.row_types.specs.declared.RegisterRow.{RegisterRow}
-use Rattle.card_writer.specs.declared.Stored.{Stored}
 use Rattle.row_index.specs.Lent.{tablesWith}
 use Rattle.engine.specs.Questions.{areCounts}
 use Rattle.engine.specs.Answers.{response, answerOf}
@@ -27,7 +26,7 @@ use Rattle.engine.specs.declared.Decision.{Decision}
 use Rattle.engine.specs.declared.Decision.the-variants.{Refuse, Reset, Start, Open, Load, Close, DeleteSlot, DeleteKey, GetCard, ListSlots, QuerySlot}
 use Rattle.engine.specs.declared.Outcome.{Outcome}
 use Rattle.response_requests.specs.Responding.{outcomeFor, responseFor, CanRespond}
-use Rattle.entry_changes.specs.Changes.{slotsAfter, registersAfter, CanChangeSlots, CanChangeRegisters, HasStored}
+use Rattle.entry_changes.specs.Changes.{slotsAfter, registersAfter, CanChangeSlots, CanChangeRegisters}
 use Rattle.entry_core.specs.Owners.{AreOwners}
 use Rattle.entry_core.proofs.DoneBy.{outcome-is, response-is}
 use Rattle.entry_core.proofs.RowsAfter.{tables-are}
@@ -60,8 +59,8 @@ module _ (slots : List SlotRow) (n : ℕ) (R : List RegisterRow) (m : ℕ) (x : 
   t = tablesWith slots n R m
 
   module _ (owners : List ℕ) (owned : areCounts n m ≡ true → AreOwners owners (take n slots) (take m R) m) where
-    pub responds : (p : List ℕ) → p ≡ payloadOf q → (c : Stored) → HasStored d c x (valuesOf p) → (l : List RegisterRow) → l ≡ registersAfter d m R x (valuesOf p) → CanRespond d (g .parts) (tablesWith slots n l m) owners c x q room
-    responds p w c h l y = rw (y, w) (can-respond t x q room owners owned d (sym e) (g .parts) (is .parts-stand) c (rw w at h))
+    pub responds : (p : List ℕ) → p ≡ payloadOf q → (l : List RegisterRow) → l ≡ registersAfter d m R x (valuesOf p) → CanRespond d (g .parts) (tablesWith slots n l m) owners x q room
+    responds p w l y = rw (y, w) (can-respond t x q room owners owned d (sym e) (g .parts) (is .parts-stand))
 
     pub slots-can : (p : List ℕ) → p ≡ payloadOf q → CanChangeSlots d (g .parts) n p
     slots-can p w = rw w (can-slots t x q room owners owned d (sym e) (g .parts) (is .parts-stand))

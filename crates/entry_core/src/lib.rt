@@ -16,24 +16,20 @@ ghost use Rattle.decide_requests.specs.Found.{IsFound};
 ghost use Rattle.entry_core.specs.Owners.{AreOwners};
 
 // What question 3 answers, and finds where the counts are in range.
-fn find(
-    slots: [SlotRow; 8],
-    slot_count: usize,
-    cards: &[[u8; 256]],
-    register_count: usize,
-) -> Findings
+fn find(slots: [SlotRow; 8], counts: Counts, cards: &[[u8; 256]]) -> Findings
     requires { ⌜ length (now cards) ≡ 32 ⌝ }
-    ensures { λ f. ⌜ (areCounts «slot_count» «register_count» ≡ true
-        → IsFound (f .sound) (f .keys) (take «slot_count» slots)
-        (take «register_count» (rowsWith (now (cards .entry)))) «register_count») ⌝ }
-    ensures owners { λ f. ⌜ (areCounts «slot_count» «register_count» ≡ true
-        → AreOwners (f .owners) (take «slot_count» slots)
-        (take «register_count» (rowsWith (now (cards .entry)))) «register_count») ⌝ }
+    ensures { λ f. ⌜ (areCounts (counts .slots) (counts .registers) ≡ true
+        → IsFound (f .sound) (f .keys) (take (counts .slots) slots)
+        (take (counts .registers) (rowsWith (now (cards .entry)))) (counts .registers)) ⌝ }
+    ensures owners { λ f. ⌜ (areCounts (counts .slots) (counts .registers) ≡ true
+        → AreOwners (f .owners) (take (counts .slots) slots)
+        (take (counts .registers) (rowsWith (now (cards .entry)))) (counts .registers)) ⌝ }
 {
-    if !decide_counts::are_counts(slot_count, register_count) {
+    let register_count = counts.registers;
+    if !decide_counts::are_counts(counts.slots, register_count) {
         return row_soundness::unsound();
     }
-    row_soundness::find(slots, slot_count, &cards[..register_count])
+    row_soundness::find(slots, counts.slots, &cards[..register_count])
 }
 
 // How a request ended, how long its response is, and the slot rows after it.
@@ -43,42 +39,35 @@ pub struct Handled {
     pub slots: [SlotRow; 8],
 }
 
-// Handles a request over slot rows and lent cards, which are changed in place; the first slot_count and register_count
-// of them are the caller's.
+// Handles a request over slot rows and lent cards, which are changed in place. The first of them are the caller's, as
+// many as the counts say.
 pub fn handle_cards(
     slots: [SlotRow; 8],
-    slot_count: usize,
+    counts: Counts,
     cards: &mut [[u8; 256]],
-    register_count: usize,
     supplement: Supplement,
     request: &[u8],
     response: &mut [u8],
 ) -> Handled
     requires { ⌜ length (now cards) ≡ 32 ⌝ }
-    ensures { λ a. ⌜ IsAnswered (tablesWithCards slots «slot_count» (now (cards .entry)) «register_count»)
+    ensures { λ a. ⌜ IsAnswered (tablesWithCards slots (counts .slots) (now (cards .entry)) (counts .registers))
         supplement request response (a .outcome) (a .length)
-        (tablesWithCards (a .slots) «slot_count» (now (cards .exit)) «register_count») ⌝ }
+        (tablesWithCards (a .slots) (counts .slots) (now (cards .exit)) (counts .registers)) ⌝ }
 {
-    let f = find(slots, slot_count, cards, register_count);
+    let f = find(slots, counts, cards);
     let owners = f.owners;
-    let counts = Counts {
-        slots: slot_count,
-        registers: register_count,
-    };
     let d = decide_requests::decide(slots, counts, f, supplement, request, response.len());
     let decision = d.decision;
     let outcome = response_requests::outcome(decision);
     let p = message_frames::payload(request);
-    let after = entry_changes::change_slots(d, slots, slot_count, supplement, p);
-    let stored = entry_changes::change_registers(d, cards, register_count, owners, supplement, p);
+    let after = entry_changes::change_slots(d, slots, counts.slots, supplement, p);
+    entry_changes::change_registers(d, cards, counts.registers, owners, supplement, p);
     let length = response_requests::respond(
         d,
         slots,
-        slot_count,
+        counts,
         cards,
-        register_count,
         owners,
-        stored,
         supplement,
         request,
         response,

@@ -63,15 +63,7 @@ pub fn answer(
         (now (response .entry)) (now (response .exit)) (a .reply)
         (tablesWithCards (a .slots) (counts .slots) (now (cards .exit)) (counts .registers)) ⌝ }
 {
-    let a = entry_core::handle_cards(
-        slots,
-        counts.slots,
-        cards,
-        counts.registers,
-        supplement,
-        request,
-        response,
-    );
+    let a = entry_core::handle_cards(slots, counts, cards, supplement, request, response);
     let o = a.outcome;
     let reply = Reply {
         outcome: response_numbers::outcome_number(o),

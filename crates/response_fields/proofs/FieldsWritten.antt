@@ -1,4 +1,4 @@
--- One field or two, written one after the other; and that the front of a row, or a card without its zeros, has room.
+-- One field or two, written one after the other; and that what is written has room.
 use mathlib.Core.Path.{_≡_}
 use mathlib.Core.List.{List, [], _∷_}
 use Prim.Native.Nat.{ℕ, _+_, _≤_}
@@ -25,14 +25,6 @@ module _ (a b n : ℕ) (v row : List ℕ) (i : b ≡ a + length v + 2) (l : leng
   pub request-short : (r : ℕ) → r ≡ b + length (take n row) + 2 → r ≤ a + 744
   request-short r e = omega (arith, take-le n row)
 
--- put_loaded: after the number, the first n bytes of the card's space
-module _ (a b n : ℕ) (row : List ℕ) (i : b ≤ a + 12) (z : length row ≡ 256) where
-  pub card-fits : (m k : ℕ) → a + 270 ≤ m → k ≡ m → b + length (take n row) + 2 ≤ k
-  card-fits m k h e = omega (arith, take-le n row)
-
-  pub card-short : (r : ℕ) → r ≡ b + length (take n row) + 2 → r ≤ a + 270
-  card-short r e = omega (arith, take-le n row)
-
 -- put_card: v is the card without its zeros
 module _ (a : ℕ) (card v : List ℕ) (p : v ≡ trimmed card) (l : length card ≤ 256) where
   pub shown-fits : (m : ℕ) → a + 258 ≤ m → a + length v + 2 ≤ m
@@ -45,3 +37,14 @@ module _ (a : ℕ) (card v : List ℕ) (p : v ≡ trimmed card) (l : length card
 
   pub shown : {d e : List ℕ} {r : ℕ} → Wrote d a (fieldBytes (string v)) e r → Wrote d a (payloadBytes (string (trimmed card) ∷ [])) e r
   shown w = one-field (string (trimmed card)) (rw (← p) w)
+
+-- put_loaded: after the number, the card
+module _ (a b : ℕ) (i : b ≤ a + 12) where
+  pub card-fits : (m k : ℕ) → a + 270 ≤ m → k ≡ m → b + 258 ≤ k
+  card-fits m k h e = omega arith
+
+  pub card-short : (r : ℕ) → r ≤ b + 258 → r ≤ a + 270
+  card-short r h = omega arith
+
+pub then-fields : {d e f : List ℕ} {a b c : ℕ} (x : Value) (ys : List Value) → Wrote d a (fieldBytes x) e b → Wrote e b (payloadBytes ys) f c → Wrote d a (payloadBytes (x ∷ ys)) f c
+then-fields x ys v w = then v w

@@ -20,7 +20,6 @@ use Rattle.row_types.specs.RowReplies.{slotFields, numberFields, queryFields}
 use Rattle.row_types.specs.Supplements.{loadRequest}
 use Rattle.row_types.specs.declared.SlotRow.{SlotRow}
 use Rattle.row_types.specs.declared.RegisterRow.{RegisterRow}
-use Rattle.card_writer.specs.declared.Stored.{Stored}
 use Rattle.row_types.specs.declared.Supplement.{Supplement}
 use Rattle.row_types.specs.declared.Tables.{Tables}
 use Rattle.row_types.proofs.PlaceCounts.{getD-any}
@@ -39,7 +38,7 @@ use Rattle.engine.specs.declared.Refusal.{Refusal}
 use Rattle.engine.specs.declared.Outcome.{Outcome}
 use Rattle.engine.specs.declared.Outcome.the-variants.{Done}
 use Rattle.engine.proofs.Decision.{the-type}
-use Rattle.decide_parts.specs.Parts.{kmcidOf}
+use Rattle.decide_parts.specs.Parts.{kmcidOf, cardOf}
 use Rattle.decide_parts.specs.declared.Parts.{Parts}
 use Rattle.response_requests.specs.Responding.{outcomeFor, fieldsFor, responseFor, HasRoom, CanRespond}
 
@@ -64,7 +63,7 @@ done-arm ListSlots o = refl
 done-arm (QuerySlot k) o = refl
 
 -- what an arm of put_fields requires is known of its decision, and what it wrote are the decision's fields: p are the parts, at the place, r the place after
-module _ (d : Decision) (p : Parts) (slots : List SlotRow) (n : ℕ) (rows : List RegisterRow) (m : ℕ) (owners : List ℕ) (c : Stored) (x : Supplement) (q : List ℕ) (room : ℕ) (h : CanRespond d p (tablesWith slots n rows m) owners c x q room) where
+module _ (d : Decision) (p : Parts) (slots : List SlotRow) (n : ℕ) (rows : List RegisterRow) (m : ℕ) (owners : List ℕ) (x : Supplement) (q : List ℕ) (room : ℕ) (h : CanRespond d p (tablesWith slots n rows m) owners x q room) where
   abbrev t : Tables
   t = tablesWith slots n rows m
 
@@ -107,15 +106,16 @@ module _ (d : Decision) (p : Parts) (slots : List SlotRow) (n : ℕ) (rows : Lis
         pub open-written : {a b : List ℕ} {at r : ℕ} → Wrote a at (fieldBytes (string v)) b r → Wrote a at (payloadBytes (fieldsFor d t x q)) b r
         open-written w = rw o (one-field (string (kmcidOf (fieldsIn q))) (rw (← open-kmcid) w))
 
+    -- a card has 256 bytes
     module _ (o : d ≡ Load k) where
       pub load-place : k < 32
-      load-place = (rw o at h) .1 .1 .1
+      load-place = (rw o at h) .1 .1
 
-      pub load-long : c .length ≤ 256
-      load-long = (rw o at h) .1 .0
+      pub load-in : (l : ℕ) → l ≡ 32 → k < l
+      load-in l z = let g = load-place in omega arith
 
-      pub load-written : {a b : List ℕ} {at r : ℕ} → Wrote a at (payloadBytes (number (k + 1) ∷ string (take (c .length) (c .card)) ∷ [])) b r → Wrote a at (payloadBytes (fieldsFor d t x q)) b r
-      load-written w = rw o (rw ((rw o at h) .1 .1 .0) at w)
+      pub load-fits : k * 256 < 2 ^ 64
+      load-fits = let g = load-place in omega arith
 
     module _ (o : d ≡ GetCard k) where
       pub get-card-place : k < 32
@@ -124,7 +124,6 @@ module _ (d : Decision) (p : Parts) (slots : List SlotRow) (n : ℕ) (rows : Lis
       pub get-card-in : (l : ℕ) → l ≡ 32 → k < l
       get-card-in l z = let g = get-card-place in omega arith
 
-      -- a card has 256 bytes
       pub get-card-fits : k * 256 < 2 ^ 64
       get-card-fits = let g = get-card-place in omega arith
 
@@ -166,6 +165,14 @@ pub get-card-written : {a b : List ℕ} {at r : ℕ} (d : Decision) (slots : Lis
     → Wrote a at (payloadBytes (string (trimmed (getD cards k y)) ∷ [])) b r → Wrote a at (payloadBytes (fieldsFor d (tablesWithCards slots n cards m) x q)) b r
 get-card-written d slots n m x q k cards y o z h w = rw (o, card-at cards k (omega arith) y freeRegister) w
 
+pub load-written : {a b : List ℕ} {at r : ℕ} (d : Decision) (p : Parts) (slots : List SlotRow) (n m : ℕ) (owners : List ℕ) (x : Supplement) (q : List ℕ) (room k : ℕ) (cards : List (List ℕ)) (y : List ℕ)
+    → CanRespond d p (tablesWithCards slots n cards m) owners x q room → d ≡ Load k → length cards ≡ 32
+    → Wrote a at (payloadBytes (number (k + 1) ∷ string (trimmed (getD cards k y)) ∷ [])) b r → Wrote a at (payloadBytes (fieldsFor d (tablesWithCards slots n cards m) x q)) b r
+load-written d p slots n m owners x q room k cards y h o z w =
+    let g : k < 32 = (rw o at h) .1 .1 in
+    let e : trimmed (getD cards k y) ≡ cardOf x (fieldsIn q) = rw (card-at cards k (omega arith) y freeRegister) at ((rw o at h) .1 .0) in
+    rw o (rw e at w)
+
 -- the decisions whose response has no field, and a refusal
 abbrev bareOnes : List ℕ
 bareOnes = 0 ∷ 1 ∷ 5 ∷ 6 ∷ 7 ∷ []
@@ -184,7 +191,7 @@ no-fields ListSlots t x q a at o = absurd (miss bareOnes 9 tt o)
 no-fields (QuerySlot k) t x q a at o = absurd (miss bareOnes 10 tt o)
 
 -- respond: a refusal, and the others
-module _ (d : Decision) (p : Parts) (t : Tables) (owners : List ℕ) (c : Stored) (x : Supplement) (q : List ℕ) (room : ℕ) (h : CanRespond d p t owners c x q room) where
+module _ (d : Decision) (p : Parts) (t : Tables) (owners : List ℕ) (x : Supplement) (q : List ℕ) (room : ℕ) (h : CanRespond d p t owners x q room) where
   module _ (r : Refusal) (o : d ≡ Refuse r) where
     pub refuse-room : CanRefuse (refusal r .header) (length q) room
     refuse-room = rw o at h
@@ -193,7 +200,7 @@ module _ (d : Decision) (p : Parts) (t : Tables) (owners : List ℕ) (c : Stored
     refused-written w = rw o w
 
   -- the buffer keeps its length
-  pub still-room : (k : ℕ) → k ≡ room → CanRespond d p t owners c x q k
+  pub still-room : (k : ℕ) → k ≡ room → CanRespond d p t owners x q k
   still-room k e = rw e h
 
 -- the decisions that are no refusal
@@ -201,8 +208,8 @@ abbrev acceptedOnes : List ℕ
 acceptedOnes = 1 ∷ 2 ∷ 3 ∷ 4 ∷ 5 ∷ 6 ∷ 7 ∷ 8 ∷ 9 ∷ 10 ∷ []
 
 -- they have room, and are answered with their fields
-module _ (p : Parts) (t : Tables) (owners : List ℕ) (c : Stored) (x : Supplement) (q : List ℕ) (room : ℕ) where
-  accepted-so : (d : Decision) → CanRespond d p t owners c x q room → OneOf acceptedOnes (tagOf the-type d) → HasRoom (length q) room × (responseFor d t x q ≡ responseBytes (headerOf q) accepted (fieldsFor d t x q))
+module _ (p : Parts) (t : Tables) (owners : List ℕ) (x : Supplement) (q : List ℕ) (room : ℕ) where
+  accepted-so : (d : Decision) → CanRespond d p t owners x q room → OneOf acceptedOnes (tagOf the-type d) → HasRoom (length q) room × (responseFor d t x q ≡ responseBytes (headerOf q) accepted (fieldsFor d t x q))
   accepted-so (Refuse r) h o = absurd (miss acceptedOnes 0 tt o)
   accepted-so Reset h o = (h, refl)
   accepted-so (Start k) h o = (h .0, refl)
@@ -216,12 +223,12 @@ module _ (p : Parts) (t : Tables) (owners : List ℕ) (c : Stored) (x : Suppleme
   accepted-so (QuerySlot k) h o = (h .0, refl)
 
 -- s is the header of the request
-module _ (d : Decision) (p : Parts) (t : Tables) (owners : List ℕ) (c : Stored) (x : Supplement) (q : List ℕ) (room : ℕ) (h : CanRespond d p t owners c x q room) (o : OneOf acceptedOnes (tagOf the-type d)) (s : List ℕ) (i : s ≡ headerOf q) where
+module _ (d : Decision) (p : Parts) (t : Tables) (owners : List ℕ) (x : Supplement) (q : List ℕ) (room : ℕ) (h : CanRespond d p t owners x q room) (o : OneOf acceptedOnes (tagOf the-type d)) (s : List ℕ) (i : s ≡ headerOf q) where
   five : length s ≡ 5
-  five = ap length i ∙ header-five q (accepted-so p t owners c x q room d h o .0 .0)
+  five = ap length i ∙ header-five q (accepted-so p t owners x q room d h o .0 .0)
 
   long : 1024 ≤ room
-  long = accepted-so p t owners c x q room d h o .0 .1
+  long = accepted-so p t owners x q room d h o .0 .1
 
   pub head-long : 3 ≤ length s
   head-long = omega (arith, five)
@@ -242,4 +249,4 @@ module _ (d : Decision) (p : Parts) (t : Tables) (owners : List ℕ) (c : Stored
 
       pub accepted-written : {u v w z : List ℕ} {r : ℕ} → room ≡ length u → Wrote u 0 (headBytes s accepted) v a → Wrote v a (payloadBytes (fieldsFor d t x q)) w b → Wrote w b (ending (take b w)) z r
           → Wrote u 0 (responseFor d t x q) z r
-      accepted-written g y m n = rw (accepted-so p t owners c x q room d h o .1, ← i) (replied s accepted (fieldsFor d t x q) y m n (omega (arith, five, long)))
+      accepted-written g y m n = rw (accepted-so p t owners x q room d h o .1, ← i) (replied s accepted (fieldsFor d t x q) y m n (omega (arith, five, long)))

@@ -13,7 +13,6 @@ use Rattle.row_types.specs.Slots as slot
 use Rattle.row_types.specs.Registers.{freeRegister}
 use Rattle.row_types.specs.Places.{slotRows, registerRows}
 use Rattle.row_types.specs.RowReplies.{storedIn, slotNames, nameFields, queryFields}
-use Rattle.card_writer.specs.declared.Stored.{Stored}
 use Rattle.row_types.specs.declared.Supplement.{Supplement}
 use Rattle.row_types.specs.declared.Tables.{Tables}
 use Rattle.row_types.specs.declared.SlotState.the-variants.{Free, Pending, Loading, Idle}
@@ -77,31 +76,30 @@ abbrev pub KnowsRegisters : ℕ → Tables → List ℕ → Type 0
 KnowsRegisters k t owners =
     AreOwnedBy (k + 1) (slot.kmcidOf (getD (t .slots) k freeSlot)) (take (t .«register_count») owners) (registerRows t)
 
--- what makes the response fit, p being the parts that the decision was made of, and c the card that SM?KL stored; it is
--- known of each decision
-abbrev pub CanRespond : Decision → Parts → Tables → List ℕ → Stored → Supplement → List ℕ → ℕ → Type 0
-CanRespond (Refuse r) p t owners c x q room = CanRefuse (refusal r .header) (length q) room
-CanRespond Reset p t owners c x q room = HasRoom (length q) room
-CanRespond (Start k) p t owners c x q room =
+-- what makes the response fit, p being the parts that the decision was made of, and t the tables with the registers
+-- after it, so that SM?KL's card stands in its row; it is known of each decision
+abbrev pub CanRespond : Decision → Parts → Tables → List ℕ → Supplement → List ℕ → ℕ → Type 0
+CanRespond (Refuse r) p t owners x q room = CanRefuse (refusal r .header) (length q) room
+CanRespond Reset p t owners x q room = HasRoom (length q) room
+CanRespond (Start k) p t owners x q room =
     HasRoom (length q) room
     × (HasParts (Start k) p (payloadOf q)
     × ((length (kmcidOf (fieldsIn q)) ≤ 40)
     × (x .«request_length» ≤ 700)))
-CanRespond (Open k) p t owners c x q room =
+CanRespond (Open k) p t owners x q room =
     HasRoom (length q) room
     × (HasParts (Open k) p (payloadOf q)
     × (length (kmcidOf (fieldsIn q)) ≤ 40))
-CanRespond (Load k) p t owners c x q room =
+CanRespond (Load k) p t owners x q room =
     HasRoom (length q) room
-    × ((c .length ≤ 256)
-    × ((take (c .length) (c .card) ≡ cardOf x (fieldsIn q))
-    × (k < 32)))
-CanRespond (Close k) p t owners c x q room = HasRoom (length q) room
-CanRespond (DeleteSlot k) p t owners c x q room = HasRoom (length q) room
-CanRespond (DeleteKey k) p t owners c x q room = HasRoom (length q) room
-CanRespond (GetCard k) p t owners c x q room = HasRoom (length q) room × (k < 32)
-CanRespond ListSlots p t owners c x q room = HasRoom (length q) room × (t .«slot_count» ≤ 8)
-CanRespond (QuerySlot k) p t owners c x q room =
+    × ((storedIn (getD (t .registers) k freeRegister) ≡ cardOf x (fieldsIn q))
+    × (k < 32))
+CanRespond (Close k) p t owners x q room = HasRoom (length q) room
+CanRespond (DeleteSlot k) p t owners x q room = HasRoom (length q) room
+CanRespond (DeleteKey k) p t owners x q room = HasRoom (length q) room
+CanRespond (GetCard k) p t owners x q room = HasRoom (length q) room × (k < 32)
+CanRespond ListSlots p t owners x q room = HasRoom (length q) room × (t .«slot_count» ≤ 8)
+CanRespond (QuerySlot k) p t owners x q room =
     HasRoom (length q) room
     × ((k < 8)
     × ((t .«register_count» ≤ 32)

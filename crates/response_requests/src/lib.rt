@@ -1,8 +1,8 @@
 // The outcome and the response of a decision (document 01, "Questions in order"; 001 clause 5.3).
-use card_writer::Stored;
 use decide_parts::Decided;
 use engine::Decision;
 use engine::Outcome;
+use row_types::Counts;
 use row_types::SlotRow;
 use row_types::SlotState;
 use row_types::Supplement;
@@ -37,11 +37,9 @@ pub fn outcome(decision: Decision) -> Outcome
 fn put_fields(
     decided: Decided,
     slots: [SlotRow; 8],
-    slot_count: usize,
+    counts: Counts,
     cards: &[[u8; 256]],
-    register_count: usize,
     owners: [usize; 32],
-    stored: Stored,
     supplement: Supplement,
     request: &[u8],
     response: &mut [u8],
@@ -49,12 +47,12 @@ fn put_fields(
 ) -> usize
     requires { ⌜ (length (now cards) ≡ 32)
         × CanRespond (decided .decision) (decided .parts)
-        (tablesWithCards slots «slot_count» (now cards) «register_count»)
-        owners stored supplement (now request) (length (now response))
+        (tablesWithCards slots (counts .slots) (now cards) (counts .registers))
+        owners supplement (now request) (length (now response))
         × (at + 744 ≤ length (now response)) ⌝ }
     ensures { λ r. ⌜ Writes response at
         (payloadBytes (fieldsFor (decided .decision)
-        (tablesWithCards slots «slot_count» (now (cards .entry)) «register_count»)
+        (tablesWithCards slots (counts .slots) (now (cards .entry)) (counts .registers))
         supplement (now (request .entry)))) r ⌝ }
     ensures short { λ r. ⌜ r ≤ at + 744 ⌝ }
 {
@@ -68,11 +66,18 @@ fn put_fields(
             let kmcid = byte_bounds::part(message_frames::payload(request), decided.parts.slot);
             field_writer::put_string(response, at, kmcid)
         }
-        Decision::Load(k) => response_fields::put_loaded(response, at, k, stored),
+        Decision::Load(k) => response_fields::put_loaded(response, at, k, &cards[k]),
         Decision::GetCard(k) => response_fields::put_card(response, at, &cards[k]),
-        Decision::ListSlots => response_slot_lists::put_names(response, at, slots, slot_count),
+        Decision::ListSlots => response_slot_lists::put_names(response, at, slots, counts.slots),
         Decision::QuerySlot(k) => {
-            response_slot_queries::put_query(response, at, slots[k], owners, register_count, k + 1)
+            response_slot_queries::put_query(
+                response,
+                at,
+                slots[k],
+                owners,
+                counts.registers,
+                k + 1,
+            )
         }
         Decision::Refuse(_)
         | Decision::Reset
@@ -82,27 +87,25 @@ fn put_fields(
     }
 }
 
-// Writes the response of what was decided, and answers its length: over the slot rows and the cards, with the number of
-// each register's owner.
+// Writes the response of what was decided, and answers its length: over the slot rows before the change and the cards
+// after it, with the number of each register's owner.
 pub fn respond(
     decided: Decided,
     slots: [SlotRow; 8],
-    slot_count: usize,
+    counts: Counts,
     cards: &[[u8; 256]],
-    register_count: usize,
     owners: [usize; 32],
-    stored: Stored,
     supplement: Supplement,
     request: &[u8],
     response: &mut [u8],
 ) -> usize
     requires { ⌜ (length (now cards) ≡ 32)
         × CanRespond (decided .decision) (decided .parts)
-        (tablesWithCards slots «slot_count» (now cards) «register_count»)
-        owners stored supplement (now request) (length (now response)) ⌝ }
+        (tablesWithCards slots (counts .slots) (now cards) (counts .registers))
+        owners supplement (now request) (length (now response)) ⌝ }
     ensures { λ k. ⌜ Writes response 0
         (responseFor (decided .decision)
-        (tablesWithCards slots «slot_count» (now (cards .entry)) «register_count»)
+        (tablesWithCards slots (counts .slots) (now (cards .entry)) (counts .registers))
         supplement (now (request .entry))) k ⌝ }
     ensures fits { λ k. ⌜ k ≤ length (now (response .entry)) ⌝ }
 {
@@ -114,11 +117,9 @@ pub fn respond(
     let end = put_fields(
         decided,
         slots,
-        slot_count,
+        counts,
         cards,
-        register_count,
         owners,
-        stored,
         supplement,
         request,
         response,

@@ -1,5 +1,5 @@
 -- `entry_changes::change_registers` meets its contract, an arm at a time.
-use Rattle.entry_changes.proofs.ChangeLaws.{load-can, load-fits, load-parts, load-length, load-made, delete-slot-sum, delete-slot-count, delete-slot-cards, cards-freed, delete-key-can, delete-key-fits, delete-key-made, registers-kept, has-stored, delete-slot-stores-none, delete-key-stores-none, stores-none}
+use Rattle.entry_changes.proofs.ChangeLaws.{load-can, load-fits, load-parts, load-length, load-made, delete-slot-sum, delete-slot-count, delete-slot-cards, cards-freed, delete-key-can, delete-key-fits, delete-key-made, registers-kept}
 use borrow.Author.Needs.{needs}
 use Rattle.entry_changes.proofs.change_registers.Statement.{statement}
 use Rattle.entry_changes.proofs.change_registers.Tie as tie
@@ -15,16 +15,13 @@ change-registers-spec =
     (λ c. search needs)
     (λ c. search (delete-slot-sum, needs))
     (λ c κs. (search (delete-slot-count, needs), search (delete-slot-cards, needs)))
-    (λ c κs. search needs)
     (λ c. search needs)
     (λ c. search (delete-key-can, delete-key-fits, needs))
     (λ c. search (delete-key-can, delete-key-fits, needs))
-    (λ c κs. search needs)
-    (λ c κs. search needs)
     (λ c. search needs)
-    (λ c. (search load-made, search (has-stored, load-length)))
+    (λ c. search load-made)
     (λ c. search needs)
-    (λ c. (search (cards-freed, needs), search delete-slot-stores-none))
+    (λ c. search (cards-freed, needs))
     (λ c. search needs)
-    (λ c. (search delete-key-made, search delete-key-stores-none))
-    (λ c. (search registers-kept, search stores-none)))
+    (λ c. search delete-key-made)
+    (λ c. search registers-kept))

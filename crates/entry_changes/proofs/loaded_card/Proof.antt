@@ -1,6 +1,6 @@
 -- `entry_changes::loaded_card` meets its contract: the card is written from the request's own parts.
 use Rattle.byte_bounds.proofs.BoundsLaws.{taken}
-use Rattle.entry_changes.proofs.ChangeLaws.{card-room, card-values, card-made, card-measured}
+use Rattle.entry_changes.proofs.ChangeLaws.{card-room, card-values, card-made}
 use borrow.Author.Needs.{needs}
 use Rattle.entry_changes.proofs.loaded_card.Statement.{statement}
 use Rattle.entry_changes.proofs.loaded_card.Tie as tie
@@ -12,4 +12,4 @@ loaded-card-spec =
     (λ c κs. search needs)
     (λ c κs. search needs)
     (λ c κs. (search (card-values, taken), search (card-room, taken)))
-    (λ c. (search (card-made, taken), search (card-measured, taken))))
+    (λ c. search (card-made, taken)))

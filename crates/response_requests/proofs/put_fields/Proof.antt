@@ -1,5 +1,5 @@
 -- `response_requests::put_fields` meets its contract, an arm at a time.
-use Rattle.response_requests.proofs.RespondLaws.{start-part, start-short, start-request, start-written, open-part, open-fits, open-short, open-written, load-place, load-long, load-written, get-card-place, get-card-in, get-card-fits, get-card-written, query-slot-place, query-slot-fits, query-slot-sum, query-slot-count, query-slot-written, list-slots-count, fields-arm, no-fields}
+use Rattle.response_requests.proofs.RespondLaws.{start-part, start-short, start-request, start-written, open-part, open-fits, open-short, open-written, load-place, load-in, load-fits, load-written, get-card-place, get-card-in, get-card-fits, get-card-written, query-slot-place, query-slot-fits, query-slot-sum, query-slot-count, query-slot-written, list-slots-count, fields-arm, no-fields}
 use borrow.Author.Needs.{needs}
 use Rattle.response_requests.proofs.put_fields.Statement.{statement}
 use Rattle.response_requests.proofs.put_fields.Tie as tie
@@ -17,7 +17,9 @@ put-fields-spec =
     (λ c κs. search open-part)
     (λ c κs. search open-fits)
     (λ c. search needs)
-    (λ c κs. (search load-place, search load-long, search needs))
+    (λ c. search load-fits)
+    (λ c. search load-in)
+    (λ c κs. (search load-place, search needs, search needs))
     (λ c. search needs)
     (λ c. search get-card-fits)
     (λ c. search get-card-in)
