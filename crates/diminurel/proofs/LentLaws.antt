@@ -7,7 +7,7 @@ use mathlib.Core.Option.{some}
 use Prim.Native.Nat.{ℕ, _≤_, zero-le}
 use native.Mathlib.Omega.{arith}
 use lib.Dec.{T, T-not, eqb, leb}
-use lib.ListN.{length}
+use lib.ListN.{length, take}
 use lib.Seq.{take-length}
 use Rattle.row_types.specs.Places.{slotRows, registerRows}
 use Rattle.row_types.specs.RowReplies.{slotNames}
@@ -15,7 +15,8 @@ use Rattle.row_types.specs.declared.SlotRow.{SlotRow}
 use Rattle.row_types.specs.declared.RegisterRow.{RegisterRow}
 use Rattle.row_types.specs.declared.Supplement.{Supplement}
 use Rattle.row_types.specs.declared.Tables.{Tables}
-use Rattle.row_index.specs.Lent.{tablesWith}
+use Rattle.row_index.specs.Lent.{tablesWithCards}
+use Rattle.row_index.proofs.LentLaws.{rows-again}
 use Rattle.decide_counts.specs.First.{firstRefusal}
 use Rattle.decide_counts.proofs.CountLaws.{slots-few, registers-few}
 use Rattle.engine.specs.Refusals.{refusal}
@@ -31,7 +32,7 @@ use Rattle.engine.specs.declared.Outcome.{Outcome}
 use Rattle.engine.specs.declared.Outcome.the-variants.{Accepted, Done, Refused}
 use Rattle.engine.proofs.AnswerLaws.{IsUnwritten, first-no-decides, refused-keeps, no-reply-exactly}
 use Rattle.engine.proofs.Counted.{counted}
-use Rattle.row_lending.specs.Tables.{overlay, freeSlots, freeRegisters, slotTable, registerTable}
+use Rattle.row_lending.specs.Tables.{overlay, freeSlots, freeRegisters, slotTable, registerTable, cardTable}
 use Rattle.row_lending.proofs.OverlayLaws.{overlay-front, overlay-others}
 use Rattle.entry_numbers.specs.Numbers.{stateByte}
 use Rattle.entry_numbers.specs.Replies.{Replies}
@@ -48,10 +49,10 @@ register-places : length freeRegisters ≡ 32
 unfolding freeRegisters
 register-places = refl
 
--- ys and zs are the lent rows, and `loaded` the tables that they are loaded into
+-- ys and zs are the lent rows, and `loaded` the tables that they are loaded into, the registers as cards
 module _ (ys : List SlotRow) (zs : List RegisterRow) where
   abbrev pub loaded : Tables
-  loaded = tablesWith (slotTable ys) (length ys) (registerTable zs) (length zs)
+  loaded = tablesWithCards (slotTable ys) (length ys) (cardTable zs) (length zs)
 
   abbrev rows : Lent
   rows = record { slots = ys; registers = zs }
@@ -68,7 +69,7 @@ module _ (ys : List SlotRow) (zs : List RegisterRow) where
     slots-same = overlay-front ys freeSlots room-for-slots
 
     registers-same : registerRows loaded ≡ zs
-    registers-same = overlay-front zs freeRegisters room-for-registers
+    registers-same = ap (take (length zs)) (rows-again (registerTable zs)) ∙ overlay-front zs freeRegisters room-for-registers
 
   -- a call over them, and a reply r to it with the buffer afterwards
   module _ (x : Supplement) (q b : List ℕ) where

@@ -1,6 +1,7 @@
 // The entry points for callers in any language, over the rows that the caller lends, of any number (document 01, "What
 // the caller lends"): the rows are loaded into tables, answered by value and in numbers, and stored back.
 use entry_numbers::Reply;
+use row_types::Counts;
 use row_types::RegisterRow;
 use row_types::SlotRow;
 use row_types::Supplement;
@@ -29,11 +30,14 @@ pub extern "C" fn diminurel_handle(
             length: 0,
         };
     }
-    let a = entry_numbers::answer_rows(
+    let mut cards = row_lending::load_cards(registers);
+    let a = entry_numbers::answer(
         row_lending::load_slots(slots),
-        slots.len(),
-        row_lending::load_registers(registers),
-        registers.len(),
+        Counts {
+            slots: slots.len(),
+            registers: registers.len(),
+        },
+        &mut cards,
         supplement,
         request,
         response,
@@ -42,7 +46,7 @@ pub extern "C" fn diminurel_handle(
         return a.reply;
     }
     row_lending::store_slots(slots, a.slots);
-    row_lending::store_registers(registers, a.registers);
+    row_lending::store_cards(registers, cards);
     a.reply
 }
 
@@ -55,11 +59,14 @@ pub extern "C" fn diminurel_usable(
 ) -> u8
     ensures { λ n. ⌜ n ≡ yesByte (isUsable (lentTables (now (slots .entry)) (now (registers .entry))) register) ⌝ }
 {
-    entry_numbers::usable_rows(
+    let cards = row_lending::load_cards(registers);
+    entry_numbers::usable(
         row_lending::load_slots(slots),
-        slots.len(),
-        row_lending::load_registers(registers),
-        registers.len(),
+        Counts {
+            slots: slots.len(),
+            registers: registers.len(),
+        },
+        &cards,
         register,
     )
 }

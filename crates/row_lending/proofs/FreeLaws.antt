@@ -2,15 +2,9 @@
 use mathlib.Core.Path.{_≡_, ap}
 use lib.ListN.{replicate}
 use Rattle.row_types.specs.Slots.{freeSlot}
-use Rattle.row_types.specs.Registers.{freeRegister}
 use Rattle.row_types.specs.declared.SlotRow.{SlotRow}
-use Rattle.row_types.specs.declared.RegisterRow.{RegisterRow}
-use Rattle.row_lending.specs.Tables.{freeSlots, freeRegisters}
+use Rattle.row_lending.specs.Tables.{freeSlots}
 
 pub slots-free : (r : SlotRow) → r ≡ freeSlot → replicate 8 r ≡ freeSlots
 unfolding freeSlots
 slots-free r e = ap (replicate 8) e
-
-pub registers-free : (r : RegisterRow) → r ≡ freeRegister → replicate 32 r ≡ freeRegisters
-unfolding freeRegisters
-registers-free r e = ap (replicate 32) e

@@ -6,6 +6,7 @@ pub mod Over
 pub mod OverlayLaws
 -- load and store, of any type of rows
 pub mod TableTypes
+pub mod Loan
 pub mod Turns
 pub mod Loads
 pub mod Stores

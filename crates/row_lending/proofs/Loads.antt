@@ -1,9 +1,9 @@
--- `fn load(rs: &[R]) -> B` over any type of rows and any type of tables of N rows: it takes the rows into a table by value, as far as there are places.
+-- `fn load(rs: &[R]) -> B` over any type of rows and any type of tables of N cells of them: it takes the cells of the rows into a table by value, as far as there are places.
 --     code         what the function is compiled to, for any of them
 --     loads        so it meets its contract
--- The slice is looked into once, before the loop. The loop's state is its count i, and the table then has the rows `over .. i`: those from 0 to i are the lent ones. Assumes nothing.
+-- The slice is looked into once, before the loop. The loop's state is its count i, and the table then has the cells `over .. i`: those from 0 to i are of the lent rows. Assumes nothing.
 -- In a step the number of `value`, `look`, `init`, `store`, `forget` or `leave` is a place in the list of what there is (`Start`, `I`): a local takes two, the last local comes first, and what stands before the locals is listed where it changes.
-use Rattle.hand_proofs.proofs.Prelude.{_≡_, refl, sym, _∙_, ap, ℕ, suc, _<_, _≤_, _+_, _*_, _^_, min, zero-le, min-le-left, min-le-right, eq-or-lt-of-le, add-one, arith, ⊎-elim, Bool, [], _∷_, List, lit<, length, getD, URA, fullShare, Ty, named, imm, w64, tyInt, tyBool, tyPtr, tyRef, Val, vint, vptr, vbool, SProp, ent, emp, via, fst∗, id⊢, GName, Lft, Share, ftrue, flft, fat, fobor, Memory, Routine, Heap, Env, Wp, WpFn, Tables, afterSeq, afterBlock, afterTurn, atReturn, Atoms, Fun, fact, Given, Item, Sq, runs, anyQ, atRet, ‵, _⊛_, _$_, _∵_, !, qed, move, keep, drop, split, join, rewrite, fsplit, fjoin, suffices, frame, done, whole, sub, look-in, arr-parts, look, look-raw, store, init, forget, stop, hop, fld, from, load, lit, bin, of-opd, addr, and-then, no-more, assigns, assigns-last, land, first, blocks, loops, again, Below, stays, leaves-loop, exec, returns, enter, alloc1, alloc0, params1, pass1, pass0, free0, fmOf, WpFn-mono, owns, Is, shows, shares, pointee, uint-makes, uint-vals, uint-tells, RefT, place-is, row, elem-out, elem-back, looks-slice, shuts-slice, sliceTy, sliceVal, slice-vals, ShrSlice, Room, shr-slice-tells, owned, nothing, onEntry, Meets, tripleOf, Contract, Triple, says, Stays, stay-dropped, walkOf, goes-dropped, Walks, ends-at, walked, walk-meets, yes, Param, shrSliceOf, plain, lt-ltb, le-ltb}
+use Rattle.hand_proofs.proofs.Prelude.{_≡_, refl, sym, _∙_, ap, subst, ℕ, suc, _<_, _≤_, _+_, _*_, _^_, min, zero-le, min-le-left, min-le-right, eq-or-lt-of-le, add-one, arith, ⊎-elim, Bool, [], _∷_, List, lit<, length, getD, URA, fullShare, Ty, named, imm, w64, tyInt, tyBool, tyPtr, tyRef, Val, vint, vptr, vbool, SProp, ent, emp, via, fst∗, id⊢, GName, Lft, Share, ftrue, flft, fat, fobor, Memory, Routine, Heap, Env, Wp, WpFn, Tables, afterSeq, afterBlock, afterTurn, atReturn, Atoms, Fun, fact, Given, Item, Sq, runs, anyQ, atRet, ‵, _⊛_, _$_, _∵_, !, qed, move, keep, drop, split, join, rewrite, fsplit, fjoin, suffices, frame, done, whole, sub, look-in, arr-parts, look, store, init, forget, stop, hop, fld, from, load, lit, bin, of-opd, addr, and-then, no-more, assigns, assigns-last, land, first, blocks, loops, again, Below, stays, leaves-loop, exec, returns, enter, alloc1, alloc0, params1, pass1, pass0, free0, fmOf, WpFn-mono, owns, Is, shows, shares, pointee, uint-makes, uint-vals, uint-tells, RefT, place-is, row, elem-out, elem-back, looks-slice, shuts-slice, sliceTy, sliceVal, slice-vals, ShrSlice, Room, shr-slice-tells, owned, nothing, onEntry, Meets, tripleOf, Contract, Triple, says, Stays, stay-dropped, walkOf, goes-dropped, Walks, ends-at, walked, walk-meets, yes, Param, shrSliceOf, plain, lt-ltb, le-ltb}
 use types.Kit as Kit
 use types.Part.{store-in}
 use mir.Syntax.{Fn, Name, Body, local, valueLocal, memorySlot, place, copy, int, rvOpd, op2, lt, mul, add, offset, unsigned, addrOf, field, deref, assign, seq, cond, skip, exit, call, block, loop, return}
@@ -12,13 +12,14 @@ use denote.RattleType.{RattleType}
 use denote.Array.{arrayVal}
 use denote.Triple.Clauses.{Ended, Clauses, closing}
 use denote.Struct.Laws as LL
-use mathlib.Core.List.{_++_}
+use mathlib.Core.List.{_++_, map}
+use lib.ListN.{length-map, List·getD-map}
 use Rattle.row_lending.specs.Tables.{overlay}
 use Rattle.row_lending.proofs.Over.{over, as-many, over-all}
 use Rattle.hand_proofs.proofs.Walk.{unset, holds, value, calls-plain, leave, leave-room, down, down-wf}
 use Rattle.row_lending.proofs.Lends.{Load}
 use Rattle.row_lending.proofs.Elements.{elem}
-use Rattle.row_lending.proofs.TableTypes.{RowType, Row, lent, rowTy, rowSize, rowVal, rowVals, tableVal, Filled, table, tableTy, table-tells, table-makes, table-typed, filled-long, filled-set, vals-long, vals-set}
+use Rattle.row_lending.proofs.TableTypes.{CellType, Cell, cellTy, cellSize, cellVal, cellVals, cell-typed, IsCell, tableVal, Filled, table, tableTy, table-tells, table-makes, table-typed, filled-long, filled-set, vals-long, vals-set, RowType, Row, lent, rowTy, rowSize, rowVal, Within}
 use Rattle.row_lending.proofs.Turns.{PlacedContract, offset-fits, below, next-fits, falls}
 use Rattle.row_lending.proofs.placed as placed
 use Rattle.row_lending.proofs.placed.Symbol.{name as #placed}
@@ -27,20 +28,20 @@ use Rattle.row_lending.proofs.placed.Symbol.{name as #placed}
 abbrev pub Free : (B : RattleType) → Ended
 Free B = record { signature = record { lifetimes = 0; outlives = []; params = []; result = plain (λ _. B) }; kept = tt }
 
--- it makes a table of the rows frees
-module _ (ρ : RowType) (N : ℕ) (frees : List (Row ρ)) {M : Type 1} (𝓤 : URA M) (H : Heap 𝓤) (A : Atoms 𝓤) where
-  abbrev freeClauses : Clauses 𝓤 (Free (table ρ N))
+-- it makes a table of the cells frees
+module _ (ε : CellType) (N : ℕ) (frees : List (Cell ε)) {M : Type 1} (𝓤 : URA M) (H : Heap 𝓤) (A : Atoms 𝓤) where
+  abbrev freeClauses : Clauses 𝓤 (Free (table ε N))
   freeClauses = λ κs a. record { ghost = Unit {0}; requires = λ _. emp 𝓤; ensures = λ _ r _. fact 𝓤 (r ≡ frees) }
 
   abbrev pub FreeContract : Contract 𝓤
-  FreeContract = tripleOf 𝓤 H A (Free (table ρ N) .signature) (closing 𝓤 H A (Free (table ρ N)) freeClauses)
+  FreeContract = tripleOf 𝓤 H A (Free (table ε N) .signature) (closing 𝓤 H A (Free (table ε N)) freeClauses)
 
-module _ (ρ : RowType) (N : ℕ) (few : T (ltb N (2 ^ 64))) (#free : Name) where
+module _ (ρ : RowType) (ε : CellType) (ω : Within ρ ε) (N : ℕ) (few : T (ltb N (2 ^ 64))) (#free : Name) where
   abbrev S₁ : Param 1
   S₁ = shrSliceOf (0 ∷ []) tt (plain (λ _. lent ρ))
 
   abbrev B : RattleType
-  B = table ρ N
+  B = table ε N
 
   abbrev T₀ : Ended
   T₀ = Load (lent ρ) B
@@ -50,20 +51,20 @@ module _ (ρ : RowType) (N : ℕ) (few : T (ltb N (2 ^ 64))) (#free : Name) wher
   Ref = sliceTy (tyRef (named 0) imm (pointee (lent ρ .written)))
 
   abbrev Tab : Ty
-  Tab = tableTy ρ N
+  Tab = tableTy ε N
 
-  -- a turn: t[i] = rs[i]; i += 1
+  -- a turn: t[i] = the cell of rs[i]; i += 1
   abbrev turn : Body
   turn =
       seq (assign (place 7 []) (op2 (lt unsigned) (copy (place 4 [])) (copy (place 2 []))))
       (seq (cond (copy (place 7 [])) skip (exit 1))
       (seq (assign (place 8 []) (op2 (mul unsigned) (copy (place 4 [])) (int w64 (rowSize ρ))))
       (seq (assign (place 9 []) (op2 offset (copy (place 1 (field 0 ∷ []))) (copy (place 8 []))))
-      (seq (assign (place 10 []) (rvOpd (copy (place 9 (deref (rowTy ρ) ∷ [])))))
-      (seq (assign (place 11 []) (op2 (mul unsigned) (copy (place 4 [])) (int w64 (rowSize ρ))))
+      (seq (assign (place 10 []) (rvOpd (copy (place 9 (deref (rowTy ρ) ∷ ω .path)))))
+      (seq (assign (place 11 []) (op2 (mul unsigned) (copy (place 4 [])) (int w64 (cellSize ε))))
       (seq (assign (place 12 []) (addrOf (place 3 [])))
       (seq (assign (place 13 []) (op2 offset (copy (place 12 [])) (copy (place 11 []))))
-      (seq (assign (place 13 (deref (rowTy ρ) ∷ [])) (rvOpd (copy (place 10 []))))
+      (seq (assign (place 13 (deref (cellTy ε) ∷ [])) (rvOpd (copy (place 10 []))))
       (assign (place 4 []) (op2 (add unsigned) (copy (place 4 [])) (int w64 1)))))))))))
 
   -- after the loop: the table is returned
@@ -86,20 +87,20 @@ module _ (ρ : RowType) (N : ℕ) (few : T (ltb N (2 ^ 64))) (#free : Name) wher
     outlives = [];
     params = 1;
     locals = local Tab valueLocal ∷ local Ref valueLocal ∷ local (tyInt w64) valueLocal ∷ local Tab memorySlot ∷ local (tyInt w64) valueLocal ∷ local (tyInt w64) valueLocal ∷ local Tab valueLocal ∷ local tyBool valueLocal
-        ∷ local (tyInt w64) valueLocal ∷ local tyPtr valueLocal ∷ local (rowTy ρ) valueLocal ∷ local (tyInt w64) valueLocal ∷ local tyPtr valueLocal ∷ local tyPtr valueLocal ∷ [];
+        ∷ local (tyInt w64) valueLocal ∷ local tyPtr valueLocal ∷ local (cellTy ε) valueLocal ∷ local (tyInt w64) valueLocal ∷ local tyPtr valueLocal ∷ local tyPtr valueLocal ∷ [];
     body = body;
   }
 
   abbrev stayed : Stays (T₀ .signature .params) (T₀ .kept)
   stayed = (stay-dropped S₁ yes, tt)
 
-  -- the rows that a free table has, and those that are said to be loaded: the lent rows laid over them
-  module _ (frees : List (Row ρ)) (loaded : List (Row ρ) → List (Row ρ)) (told : (ys : List (Row ρ)) → overlay ys frees ≡ loaded ys) {M : Type 1} (𝓤 : URA M) (H : Heap 𝓤) (A : Atoms 𝓤) (W : Given 𝓤 H A) (mem : Memory → SProp 𝓤) (run : Routine → Fun 𝓤) where
+  -- the cells that a free table has, and those that are said to be loaded: those of the lent rows laid over them
+  module _ (frees : List (Cell ε)) (loaded : List (Row ρ) → List (Cell ε)) (told : (ys : List (Row ρ)) → overlay (map (ω .cell) ys) frees ≡ loaded ys) {M : Type 1} (𝓤 : URA M) (H : Heap 𝓤) (A : Atoms 𝓤) (W : Given 𝓤 H A) (mem : Memory → SProp 𝓤) (run : Routine → Fun 𝓤) where
     -- ---- the contract: what `load` ensures
     abbrev loadClauses : Clauses 𝓤 T₀
     loadClauses = λ κs a. record { ghost = Unit {0}; requires = λ _. emp 𝓤; ensures = λ _ r _. fact 𝓤 (r ≡ loaded (a .0 .now)) }
 
-    module _ (𝓣 : Tables 𝓤 H) (placed-known : Triple 𝓤 (𝓣 .C #placed) (PlacedContract 𝓤 H A mem run)) (free-known : Triple 𝓤 (𝓣 .C #free) (FreeContract ρ N frees 𝓤 H A)) where
+    module _ (𝓣 : Tables 𝓤 H) (placed-known : Triple 𝓤 (𝓣 .C #placed) (PlacedContract 𝓤 H A mem run)) (free-known : Triple 𝓤 (𝓣 .C #free) (FreeContract ε N frees 𝓤 H A)) where
       -- ---- a call: the rows ys lie at (b, o), lent for κ
       module _ (κ : Lft) (q : Share) (b o : ℕ) (γ : GName) (ys : List (Row ρ)) (room : Room (lent ρ) (length ys)) where
         abbrev n : ℕ
@@ -117,29 +118,29 @@ module _ (ρ : RowType) (N : ℕ) (few : T (ltb N (2 ^ 64))) (#free : Name) wher
         abbrev Post : Val → SProp 𝓤
         Post = walkOf 𝓤 H A T₀ stayed loadClauses .post (((κ, tt), (q, tt), tt, a, (s ∷ [], tt)), tt)
 
-        -- the table's rows after i turns
-        abbrev rows : ℕ → List (Row ρ)
-        rows i = over (ρ .none) frees ys i
+        -- the table's cells after i turns
+        abbrev cells : ℕ → List (Cell ε)
+        cells i = over (ω .cell (ρ .none)) frees (map (ω .cell) ys) i
 
-        -- the loop's states: of a turn it is known that the table is one of N rows
+        -- the loop's states: of a turn it is known that the table is one of N cells
         abbrev X : Type 0
-        X = (i : ℕ) × ((i ≤ k) × Filled ρ N (rows i))
+        X = (i : ℕ) × ((i ≤ k) × Filled ε N (cells i))
 
         abbrev _≺_ : X → X → Type 0
         _≺_ = down k (λ x. x .0)
 
         module _ (l₀ l₁ l₂ l₃ l₄ l₅ l₆ l₇ l₈ l₉ l₁₀ l₁₁ l₁₂ l₁₃ : ℕ) where
           abbrev E : Env 𝓤 H
-          E = (Tab, l₀) ∷ (Ref, l₁) ∷ (tyInt w64, l₂) ∷ (Tab, l₃) ∷ (tyInt w64, l₄) ∷ (tyInt w64, l₅) ∷ (Tab, l₆) ∷ (tyBool, l₇) ∷ (tyInt w64, l₈) ∷ (tyPtr, l₉) ∷ (rowTy ρ, l₁₀) ∷ (tyInt w64, l₁₁) ∷ (tyPtr, l₁₂) ∷ (tyPtr, l₁₃) ∷ []
+          E = (Tab, l₀) ∷ (Ref, l₁) ∷ (tyInt w64, l₂) ∷ (Tab, l₃) ∷ (tyInt w64, l₄) ∷ (tyInt w64, l₅) ∷ (Tab, l₆) ∷ (tyBool, l₇) ∷ (tyInt w64, l₈) ∷ (tyPtr, l₉) ∷ (cellTy ε, l₁₀) ∷ (tyInt w64, l₁₁) ∷ (tyPtr, l₁₂) ∷ (tyPtr, l₁₃) ∷ []
 
           module _ (q′ : Share) where
             -- what there is before each turn: a share of the rows, what shuts the slice, and the locals, from the last
             abbrev I : X → List (Item 𝓤)
             I x = ‵ (row (lent ρ) q′ ys b o) ∷ ‵ (fobor κ q (arr-parts (shares (lent ρ)) n .part q′ ys b o))
-                ∷ unset tyPtr l₁₃ ++ unset tyPtr l₁₂ ++ unset (tyInt w64) l₁₁ ++ unset (rowTy ρ) l₁₀
-                ++ unset tyPtr l₉ ++ unset (tyInt w64) l₈ ++ unset tyBool l₇ ++ holds Tab l₆ (tableVal ρ frees)
+                ∷ unset tyPtr l₁₃ ++ unset tyPtr l₁₂ ++ unset (tyInt w64) l₁₁ ++ unset (cellTy ε) l₁₀
+                ++ unset tyPtr l₉ ++ unset (tyInt w64) l₈ ++ unset tyBool l₇ ++ holds Tab l₆ (tableVal ε frees)
                 ++ holds (tyInt w64) l₅ (vint w64 n) ++ holds (tyInt w64) l₄ (vint w64 (x .0))
-                ++ holds Tab l₃ (tableVal ρ (rows (x .0))) ++ holds (tyInt w64) l₂ (vint w64 k)
+                ++ holds Tab l₃ (tableVal ε (cells (x .0))) ++ holds (tyInt w64) l₂ (vint w64 k)
                 ++ holds Ref l₁ s ++ unset Tab l₀ ++ []
 
             -- what is to hold where the loop ends
@@ -147,7 +148,7 @@ module _ (ρ : RowType) (N : ℕ) (few : T (ltb N (2 ^ 64))) (#free : Name) wher
             Left = anyQ (afterBlock 𝓤 H (afterSeq 𝓤 H (Wp 𝓤 H (𝓣 .C) (𝓣 .Λ) E after (atReturn 𝓤 H E Post)) (atReturn 𝓤 H E Post)))
 
             -- a turn that loads a row
-            more : (i : ℕ) (le : i ≤ k) (f : Filled ρ N (rows i)) → i < k → Sq W (I (i, (le, f))) (runs (𝓣 .C) (𝓣 .Λ) E turn (anyQ (afterTurn 𝓤 H (Below 𝓤 H A _≺_ I (i, (le, f))) (Kit.post 𝓤 H Left))))
+            more : (i : ℕ) (le : i ≤ k) (f : Filled ε N (cells i)) → i < k → Sq W (I (i, (le, f))) (runs (𝓣 .C) (𝓣 .Λ) E turn (anyQ (afterTurn 𝓤 H (Below 𝓤 H A _≺_ I (i, (le, f))) (Kit.post 𝓤 H Left))))
             unfolding afterTurn
             more i le f yet =
                 -- the test holds
@@ -158,26 +159,33 @@ module _ (ρ : RowType) (N : ℕ) (few : T (ltb N (2 ^ 64))) (#free : Name) wher
                 assigns ! (bin ! (load ! (from ! (fld ! refl (stop !))) (look-in ! 26 (sub ! 0 refl (whole !)))) (value ! 12 refl) tt) (from ! (stop !)) (init ! 10 refl (tt, tt)) $
                 rewrite ! 10 (λ (p : ℕ). ‵ (fat fullShare tyPtr l₉ 0 (vptr b p))) (sym (place-is (rowSize ρ) o i)) refl $
                 elem-out ! (lent ρ) (Is (lent ρ)) (shows 𝓤 H A (lent ρ)) (LL.vals (ρ .type) (ρ .laws)) (LL.tells (ρ .type) (ρ .laws)) q′ ys i (ρ .none) b o within (λ is.
-                -- [rs[i]; what it owns; the other rows; what shuts the slice; _13; …; _12; …; _11; …; _10; …; _9; …]: it is read, and put back
-                assigns ! (of-opd ! (load ! (from ! (hop ! (look ! 12 refl) (stop !))) (look-raw ! 0 refl))) (from ! (stop !)) (init ! 10 refl (LL.lawful (ρ .type) (ρ .laws) 𝓤 H A W .typed e _ is .0)) $
+                -- [rs[i]; what it owns; the other rows; what shuts the slice; _13; …; _12; …; _11; …; _10; …; _9; …]: its cell is read, and it is put back
+                assigns ! (of-opd ! (load ! (from ! (hop ! (look ! 12 refl) (ω .finds !))) (ω .looks ! 0 e refl))) (from ! (stop !)) (init ! 10 refl (cell-typed ε 𝓤 H A W (ω .cell e) (ω .cell-is e is))) $
                 elem-back ! (lent ρ) q′ ys i (ρ .none) (rowVal ρ e ∷ []) b o within $
+                rewrite ! 8 (λ (x : Cell ε). ‵ (fat fullShare (cellTy ε) l₁₀ 0 (cellVal ε x))) (sym (List·getD-map (ω .cell) ys i (ρ .none))) refl $
                 -- where t[i] lies
-                assigns ! (bin ! (value ! 20 refl) (lit ! (ρ .small)) (record { fits = fits })) (from ! (stop !)) (init ! 6 refl (tt, record { fits = fits })) $
+                assigns ! (bin ! (value ! 20 refl) (lit ! (ε .small)) (record { fits = cell-fits })) (from ! (stop !)) (init ! 6 refl (tt, record { fits = cell-fits })) $
                 assigns ! (addr ! (from ! (stop !))) (from ! (stop !)) (init ! 4 refl (tt, tt)) $
                 assigns ! (bin ! (value ! 4 refl) (value ! 6 refl) tt) (from ! (stop !)) (init ! 2 refl (tt, tt)) $
-                rewrite ! 2 (λ (p : ℕ). ‵ (fat fullShare tyPtr l₁₃ 0 (vptr l₃ p))) (sym (place-is (rowSize ρ) 0 i)) refl $
-                -- the row is stored there
+                rewrite ! 2 (λ (p : ℕ). ‵ (fat fullShare tyPtr l₁₃ 0 (vptr l₃ p))) (sym (place-is (cellSize ε) 0 i)) refl $
+                -- the cell is stored there
                 assigns ! (of-opd ! (value ! 8 refl)) (from ! (hop ! (look ! 2 refl) (stop !)))
-                (store-in ! 22 (elem ! (rowVals ρ (rows i)) i (rowVal ρ (ρ .none)) _ inside (vals-long ρ (rows i) ∙ filled-long ρ N (rows i) f) refl (whole !)) (LL.lawful (ρ .type) (ρ .laws) 𝓤 H A W .typed e _ is .0)) $
-                rewrite ! 22 (λ (us : List Val). ‵ (fat fullShare Tab l₃ 0 (arrayVal us))) (sym (vals-set ρ (rows i) i e)) refl $
+                (store-in ! 22 (elem ! (cellVals ε (cells i)) i (cellVal ε (ε .none)) _ inside (vals-long ε (cells i) ∙ filled-long ε N (cells i) f) refl (whole !)) (cell-typed ε 𝓤 H A W c (c-is is))) $
+                rewrite ! 22 (λ (us : List Val). ‵ (fat fullShare Tab l₃ 0 (arrayVal us))) (sym (vals-set ε (cells i) i c)) refl $
                 -- the count goes up, and what the turn made is forgotten
                 assigns-last ! (bin ! (value ! 20 refl) (lit ! tt) (record { fits = next-fits i n within (room .0) })) (from ! (stop !)) (store ! 20 refl (tt, record { fits = next-fits i n within (room .0) })) $
                 rewrite ! 20 (λ (j : ℕ). ‵ (fat fullShare (tyInt w64) l₄ 0 (vint w64 j))) (add-one i) refl $
                 forget ! 2 refl $ forget ! 4 refl $ forget ! 6 refl $ forget ! 8 refl $ forget ! 10 refl $ forget ! 12 refl $ forget ! 14 refl $
-                again ! _≺_ I (i, (le, f)) (suc i, (yet, filled-set ρ N (rows i) f i e is)) (falls i k yet))
+                again ! _≺_ I (i, (le, f)) (suc i, (yet, filled-set ε N (cells i) f i c (c-is is))) (falls i k yet))
               where
                 e : Row ρ
                 e = getD ys i (ρ .none)
+
+                c : Cell ε
+                c = getD (map (ω .cell) ys) i (ω .cell (ρ .none))
+
+                c-is : Is (lent ρ) e (rowVal ρ e ∷ []) → IsCell ε c
+                c-is is = subst (IsCell ε) (sym (List·getD-map (ω .cell) ys i (ρ .none))) (ω .cell-is e is)
 
                 within : i < n
                 within = below i k n yet (min-le-left n N)
@@ -185,14 +193,17 @@ module _ (ρ : RowType) (N : ℕ) (few : T (ltb N (2 ^ 64))) (#free : Name) wher
                 fits : i * rowSize ρ < 2 ^ 64
                 fits = offset-fits (rowSize ρ) i n within (room .1)
 
-                inside : i < length (rowVals ρ (rows i))
+                cell-fits : i * cellSize ε < 2 ^ 64
+                cell-fits = subst (λ (s : ℕ). i * s < 2 ^ 64) (sym (ω .size-is)) fits
+
+                inside : i < length (cellVals ε (cells i))
                 inside =
-                    let h : length (rowVals ρ (rows i)) ≡ N = vals-long ρ (rows i) ∙ filled-long ρ N (rows i) f in
+                    let h : length (cellVals ε (cells i)) ≡ N = vals-long ε (cells i) ∙ filled-long ε N (cells i) f in
                     let m : k ≤ N = min-le-right n N in
                     omega (arith, h, m, yet)
 
             -- the turn that leaves the loop, and the rest of the body
-            ends : (i : ℕ) (le : i ≤ k) (f : Filled ρ N (rows i)) → i ≡ k → Sq W (I (i, (le, f))) (runs (𝓣 .C) (𝓣 .Λ) E turn (anyQ (afterTurn 𝓤 H (Below 𝓤 H A _≺_ I (i, (le, f))) (Kit.post 𝓤 H Left))))
+            ends : (i : ℕ) (le : i ≤ k) (f : Filled ε N (cells i)) → i ≡ k → Sq W (I (i, (le, f))) (runs (𝓣 .C) (𝓣 .Λ) E turn (anyQ (afterTurn 𝓤 H (Below 𝓤 H A _≺_ I (i, (le, f))) (Kit.post 𝓤 H Left))))
             unfolding afterTurn
             ends i le f same =
                 -- the test fails
@@ -200,26 +211,26 @@ module _ (ρ : RowType) (N : ℕ) (few : T (ltb N (2 ^ 64))) (#free : Name) wher
                 rewrite ! 14 (λ (z : Bool). ‵ (fat fullShare tyBool l₇ 0 (vbool z))) (le-ltb i k (omega (arith, same))) refl $ leaves-loop ! (value ! 14 refl) $
                 -- the table is returned, the slice is shut, and the locals die
                 exec ! (𝓣 .C) (𝓣 .Λ) E after (atRet E Post) $
-                assigns ! (of-opd ! (value ! 22 refl)) (from ! (stop !)) (init ! 28 refl (table-typed ρ N 𝓤 H A W (rows i) _ f)) $
+                assigns ! (of-opd ! (value ! 22 refl)) (from ! (stop !)) (init ! 28 refl (table-typed ε N 𝓤 H A W (cells i) _ f)) $
                 shuts-slice ! tt (lent ρ) q′ ys b o $ returns ! (look ! 27 refl) $
                 leave ! 27 refl refl $ leave ! 25 refl refl $ leave ! 23 refl refl $ leave ! 21 refl refl $ leave ! 19 refl refl $ leave ! 17 refl refl $ leave ! 15 refl refl $ leave ! 13 refl refl $
                 leave-room ! 11 refl refl $ leave-room ! 9 refl refl $ leave-room ! 7 refl refl $ leave-room ! 5 refl refl $ leave-room ! 3 refl refl $ leave-room ! 1 refl refl $ free0 ! $
                 -- it is what the contract says
-                suffices ! _ (ends-at 𝓤 H A T₀ stayed loadClauses W (((κ, tt), (q, tt), tt, a, (s ∷ [], tt)), tt) _ (rows i) (tt, tt) (tt, tt)) $ says ! right $
-                nothing ! $ move ! (1 ∷ 0 ∷ []) $ join ! $ frame ! $ nothing ! $ nothing ! $ fjoin ! $ frame ! $ owned ! B (Is B) (table-makes ρ N 𝓤 H A W) (rows i) _ f $ done !
+                suffices ! _ (ends-at 𝓤 H A T₀ stayed loadClauses W (((κ, tt), (q, tt), tt, a, (s ∷ [], tt)), tt) _ (cells i) (tt, tt) (tt, tt)) $ says ! right $
+                nothing ! $ move ! (1 ∷ 0 ∷ []) $ join ! $ frame ! $ nothing ! $ nothing ! $ fjoin ! $ frame ! $ owned ! B (Is B) (table-makes ε N 𝓤 H A W) (cells i) _ f $ done !
               where
                 long : length frees ≡ N
-                long = sym (as-many (ρ .none) frees ys i) ∙ filled-long ρ N (rows i) f
+                long = sym (as-many (ω .cell (ρ .none)) frees (map (ω .cell) ys) i) ∙ filled-long ε N (cells i) f
 
-                right : rows i ≡ loaded ys
-                right = ap rows same ∙ over-all (ρ .none) frees ys k (ap (min n) (sym long)) ∙ told ys
+                right : cells i ≡ loaded ys
+                right = ap cells same ∙ over-all (ω .cell (ρ .none)) frees (map (ω .cell) ys) k (ap (min n) (sym long) ∙ ap (λ (m : ℕ). min m (length frees)) (sym (length-map ys (ω .cell)))) ∙ told ys
 
             each-turn : (x : X) → Sq W (I x) (runs (𝓣 .C) (𝓣 .Λ) E turn (anyQ (afterTurn 𝓤 H (Below 𝓤 H A _≺_ I x) (Kit.post 𝓤 H Left))))
             each-turn x = ⊎-elim (ends (x .0) (x .1 .0) (x .1 .1)) (more (x .0) (x .1 .0) (x .1 .1)) (eq-or-lt-of-le (x .1 .0))
 
           -- what there is once rs is passed: the locals, from the last, the token of κ, and the slice
           abbrev Start : List (Item 𝓤)
-          Start = unset tyPtr l₁₃ ++ unset tyPtr l₁₂ ++ unset (tyInt w64) l₁₁ ++ unset (rowTy ρ) l₁₀
+          Start = unset tyPtr l₁₃ ++ unset tyPtr l₁₂ ++ unset (tyInt w64) l₁₁ ++ unset (cellTy ε) l₁₀
               ++ unset tyPtr l₉ ++ unset (tyInt w64) l₈ ++ unset tyBool l₇ ++ unset Tab l₆
               ++ unset (tyInt w64) l₅ ++ unset (tyInt w64) l₄ ++ unset Tab l₃ ++ unset (tyInt w64) l₂
               ++ holds Ref l₁ s ++ unset Tab l₀ ++ (‵ (flft κ q) ⊛ ‵ ftrue) ∷ ‵ (owns (ShrSlice (named 0) κ (lent ρ) ∷ []) a (s ∷ [], tt)) ∷ []
@@ -232,10 +243,10 @@ module _ (ρ : RowType) (N : ℕ) (few : T (ltb N (2 ^ 64))) (#free : Name) wher
               (uint-makes 𝓤 H A W w64, (uint-makes 𝓤 H A W w64, tt)) ((refl, room .0), ((refl, lit< (few)), tt)) (id⊢ 𝓤 (emp 𝓤)) (uint-vals w64) (uint-tells w64) k (vint w64 k) refl (λ r e. id⊢ 𝓤 _)
               (and-then ! (value ! 17 refl) (and-then ! (lit ! (few)) (no-more !))) (λ k-is. land ! (from ! (stop !)) (init ! 22 refl (tt, record { fits = k-is .1 })) $
               -- t = free()
-              calls-plain ! (fmOf 𝓤 H (W .laws) 𝓣) (Free B) (freeClauses ρ N frees 𝓤 H A) free-known (tt, tt, tt, tt, tt) tt (id⊢ 𝓤 (emp 𝓤))
-              tt tt (id⊢ 𝓤 (emp 𝓤)) (λ rs. tableVal ρ rs ∷ []) (table-tells ρ N) frees (tableVal ρ frees) refl (λ r e. id⊢ 𝓤 _)
-              (no-more !) (λ is. land ! (from ! (stop !)) (init ! 14 refl (table-typed ρ N 𝓤 H A W frees _ is)) $
-              assigns ! (of-opd ! (value ! 14 refl)) (from ! (stop !)) (init ! 20 refl (table-typed ρ N 𝓤 H A W frees _ is)) $
+              calls-plain ! (fmOf 𝓤 H (W .laws) 𝓣) (Free B) (freeClauses ε N frees 𝓤 H A) free-known (tt, tt, tt, tt, tt) tt (id⊢ 𝓤 (emp 𝓤))
+              tt tt (id⊢ 𝓤 (emp 𝓤)) (λ cs. tableVal ε cs ∷ []) (table-tells ε N) frees (tableVal ε frees) refl (λ r e. id⊢ 𝓤 _)
+              (no-more !) (λ is. land ! (from ! (stop !)) (init ! 14 refl (table-typed ε N 𝓤 H A W frees _ is)) $
+              assigns ! (of-opd ! (value ! 14 refl)) (from ! (stop !)) (init ! 20 refl (table-typed ε N 𝓤 H A W frees _ is)) $
               assigns ! (of-opd ! (lit ! tt)) (from ! (stop !)) (init ! 18 refl (tt, record { fits = lit< tt })) $
               -- the slice is looked into
               move ! (29 ∷ []) $ fsplit ! $ fsplit ! $ drop ! $ fsplit ! $ drop ! $ move ! (30 ∷ []) $ split ! $ move ! (2 ∷ 0 ∷ []) $

@@ -1,21 +1,26 @@
 -- The tables that lent rows are taken into (document 01, What the caller lends).
-use mathlib.Core.List.{List, _++_}
+use Prim.Native.Nat.{ℕ}
+use mathlib.Core.List.{List, _++_, map}
 use lib.ListN.{length, take, drop, replicate}
 use Rattle.row_types.specs.Slots.{freeSlot}
 use Rattle.row_types.specs.Registers.{freeRegister}
 use Rattle.row_types.specs.declared.SlotRow.{SlotRow}
 use Rattle.row_types.specs.declared.RegisterRow.{RegisterRow}
+use Rattle.row_index.specs.Lent.{cardIn}
 
 -- q with the elements of p in the place of its first ones, as many as there are in both
 abbrev pub overlay : {X : Type 0} → List X → List X → List X
 overlay p q = take (length q) p ++ drop (length p) q
 
--- 8 and 32 free rows
+-- 8 and 32 free rows, and 32 free rows' cards
 unfoldable pub freeSlots : List SlotRow
 freeSlots = replicate 8 freeSlot
 
 unfoldable pub freeRegisters : List RegisterRow
 freeRegisters = replicate 32 freeRegister
+
+abbrev pub freeCards : List (List ℕ)
+freeCards = replicate 32 (replicate 256 0)
 
 -- the lent rows as far as there are places, and free rows after them
 abbrev pub slotTable : List SlotRow → List SlotRow
@@ -23,3 +28,7 @@ slotTable ys = overlay ys freeSlots
 
 abbrev pub registerTable : List RegisterRow → List RegisterRow
 registerTable ys = overlay ys freeRegisters
+
+-- the cards in it
+abbrev pub cardTable : List RegisterRow → List (List ℕ)
+cardTable ys = map cardIn (registerTable ys)

@@ -1,10 +1,11 @@
 // The rows that a caller lends, of any number, taken into tables by value and put back (document 01, "What the
-// caller lends"). A row is copied from place to place, one at a time.
+// caller lends"): slots as rows, registers as their cards. One row is copied at a time.
 use row_types::RegisterRow;
 use row_types::SlotRow;
 ghost use mathlib.Core.Path.{_≡_};
 ghost use Prim.Native.Nat.{min};
-ghost use Rattle.row_lending.specs.Tables.{overlay, freeSlots, freeRegisters, slotTable, registerTable};
+ghost use Rattle.row_index.specs.Lent.{rowsWith};
+ghost use Rattle.row_lending.specs.Tables.{overlay, freeSlots, freeCards, slotTable, cardTable};
 
 // How many rows have one of the places.
 fn placed(count: usize, places: usize) -> usize
@@ -13,7 +14,7 @@ fn placed(count: usize, places: usize) -> usize
     if count < places { count } else { places }
 }
 
-// Tables of free rows.
+// A table of free rows.
 fn free_slots() -> [SlotRow; 8]
     ensures { λ rows. ⌜ rows ≡ freeSlots ⌝ }
 {
@@ -21,14 +22,14 @@ fn free_slots() -> [SlotRow; 8]
     [free; 8]
 }
 
-fn free_registers() -> [RegisterRow; 32]
-    ensures { λ rows. ⌜ rows ≡ freeRegisters ⌝ }
+// The cards of one.
+fn free_cards() -> [[u8; 256]; 32]
+    ensures { λ cards. ⌜ cards ≡ freeCards ⌝ }
 {
-    let free = register_rows::free_register();
-    [free; 32]
+    [[0; 256]; 32]
 }
 
-// The lent rows by value, as far as there are places, and free rows after them.
+// The lent slot rows, as far as there are places, and free rows after them.
 pub fn load_slots(slots: &[SlotRow]) -> [SlotRow; 8]
     ensures { λ rows. ⌜ rows ≡ slotTable (now (slots .entry)) ⌝ }
 {
@@ -42,20 +43,21 @@ pub fn load_slots(slots: &[SlotRow]) -> [SlotRow; 8]
     rows
 }
 
-pub fn load_registers(registers: &[RegisterRow]) -> [RegisterRow; 32]
-    ensures { λ rows. ⌜ rows ≡ registerTable (now (registers .entry)) ⌝ }
+// The cards of the lent register rows, likewise.
+pub fn load_cards(registers: &[RegisterRow]) -> [[u8; 256]; 32]
+    ensures { λ cards. ⌜ cards ≡ cardTable (now (registers .entry)) ⌝ }
 {
     let n = placed(registers.len(), 32);
-    let mut rows = free_registers();
+    let mut cards = free_cards();
     let mut i = 0;
     while i < n {
-        rows[i] = registers[i];
+        cards[i] = registers[i].card;
         i += 1;
     }
-    rows
+    cards
 }
 
-// The lent rows overwritten, as far as there are places; those beyond keep their value.
+// The lent slot rows overwritten, as far as there are places; those beyond keep their value.
 pub fn store_slots(slots: &mut [SlotRow], rows: [SlotRow; 8])
     ensures { λ _. ⌜ now (slots .exit) ≡ overlay rows (now (slots .entry)) ⌝ }
 {
@@ -67,13 +69,14 @@ pub fn store_slots(slots: &mut [SlotRow], rows: [SlotRow; 8])
     }
 }
 
-pub fn store_registers(registers: &mut [RegisterRow], rows: [RegisterRow; 32])
-    ensures { λ _. ⌜ now (registers .exit) ≡ overlay rows (now (registers .entry)) ⌝ }
+// The cards of the lent register rows, likewise.
+pub fn store_cards(registers: &mut [RegisterRow], cards: [[u8; 256]; 32])
+    ensures { λ _. ⌜ now (registers .exit) ≡ overlay (rowsWith cards) (now (registers .entry)) ⌝ }
 {
     let n = placed(registers.len(), 32);
     let mut i = 0;
     while i < n {
-        registers[i] = rows[i];
+        registers[i].card = cards[i];
         i += 1;
     }
 }

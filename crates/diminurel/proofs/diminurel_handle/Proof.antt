@@ -1,7 +1,7 @@
 -- `diminurel::diminurel_handle` meets its contract: a walk of its code, by hand. Questions 1 and 2 are asked first, and where one is a no nothing is opened. Else the two slices of rows are opened once: their rows are lent to the functions that load
--- and store them, and in between the tables are answered by value: what request and response own goes there, and is not needed afterwards. What is said of the tables is said of the lent rows (`LentLaws.antt`). Assumes nothing.
+-- and store them, and in between the cards, which lie in a local, are lent to the function that answers: what request and response own goes there, and is not needed afterwards. What is said of the tables is said of the lent rows (`LentLaws.antt`). Assumes nothing.
 -- In a step the number of `value`, `look`, `init`, `store`, `forget` or `leave` is a place in the list of what there is (`Start`, `Asked`, `After`): a local takes two, the last local comes first, and what stands before the locals is listed where it changes.
-use Rattle.hand_proofs.proofs.Prelude.{_≡_, refl, ℕ, [], _∷_, List, length, URA, fullShare, Ty, named, erased, imm, mut, w8, tyInt, tyRef, tyUnit, Val, vptr, SProp, ent, emp, via, fst∗, id⊢, GName, Lft, Share, ftrue, flft, fobor, fobs, fauth, Memory, Routine, Heap, Env, WpFn, Tables, Atoms, Fun, fact, factI, givenOf, tables, tablesOf, Given, Item, Sq, runs, atRet, ‵, raw, ⋆, _⊛_, _$_, _∵_, !, qed, move, drop, split, join, use0, use1, group, fsplit, fjoin, feqL, suffices, frame, done, agg, whole, sub, look-in, look, store, init, stop, hop, fld, from, load, addr, of-opd, and-then, no-more, assigns, land, enter, alloc1, alloc0, params1, pass1, pass0, free0, fmOf, WpFn-mono, owns, Is, pointee, u8, RefT, Held, row, opens-slice, closes-slice, sliceTy, sliceVal, slice-vals, MutSlice, ShrSlice, Room, finally, heres, codedHoleys, mut-slice-tells, shr-slice-tells, owned, heard, nothing, Vals, onEntry, Meets, tripleOf, Contract, Triple, entered, cited, Stays, gave-slice, stay-dropped, walkOf, goes-gave-slice, goes-dropped, Walks, ends-at, walked, walk-meets, yes, Param, shrSliceOf, plain, anyQ, afterSeq, atReturn, Wp, exec, first, bin, lit, lit<, keep, forget, usize, uint-makes, uint-vals, uint-tells, vint, vbool, tyBool, w64, Body, seq}
+use Rattle.hand_proofs.proofs.Prelude.{_≡_, refl, sym, ℕ, [], _∷_, List, length, URA, fullShare, Ty, named, erased, imm, mut, w8, tyInt, tyRef, tyUnit, Val, vptr, SProp, ent, emp, via, fst∗, id⊢, GName, Lft, Share, ftrue, flft, fat, fobor, fobs, fauth, Memory, Routine, Heap, Env, WpFn, Tables, Atoms, Fun, fact, factI, givenOf, tables, tablesOf, Given, Item, Sq, runs, atRet, ‵, raw, ⋆, _⊛_, _$_, _∵_, !, qed, move, drop, split, join, use0, use1, group, fsplit, fjoin, feqL, suffices, frame, done, agg, whole, sub, look-in, look, store, init, stop, hop, fld, from, load, addr, of-opd, and-then, no-more, assigns, land, enter, rewrite, alloc1, alloc0, params1, pass1, pass0, free0, fmOf, WpFn-mono, owns, Is, pointee, u8, RefT, Held, row, opens-slice, closes-slice, sliceTy, sliceVal, slice-vals, MutSlice, ShrSlice, Room, finally, heres, codedHoleys, mut-slice-tells, shr-slice-tells, owned, heard, nothing, Vals, onEntry, Meets, tripleOf, Contract, Triple, entered, cited, Stays, gave-slice, stay-dropped, walkOf, goes-gave-slice, goes-dropped, Walks, ends-at, walked, walk-meets, yes, Param, shrSliceOf, plain, anyQ, afterSeq, atReturn, Wp, exec, first, bin, lit, lit<, keep, forget, uint-makes, uint-vals, uint-tells, vint, vbool, tyBool, w64, Body, seq}
 use prog.Wp.{returns as returned}
 use types.Kit as Kit
 use types.Kit.{prop}
@@ -12,31 +12,35 @@ use mathlib.Core.Bool.{not}
 use denote.Struct.Laws as LL
 use mathlib.Core.List.{_++_}
 use denote.Triple.Clauses.{atExit}
+use Rattle.row_types.specs.declared.Counts.{Counts}
 use Rattle.row_types.specs.declared.SlotRow.{SlotRow}
 use Rattle.row_types.specs.declared.RegisterRow.{RegisterRow}
 use Rattle.row_types.specs.declared.Supplement.{Supplement}
+use Rattle.row_types.proofs.Counts as counts
+use Rattle.row_types.proofs.Counts.Laws as counts′
 use Rattle.row_types.proofs.SlotRow as slot
 use Rattle.row_types.proofs.RegisterRow as register
 use Rattle.row_types.proofs.Supplement as supplement
 use Rattle.row_types.proofs.Supplement.Laws as supplement′
-use Rattle.row_index.specs.Lent.{tablesWith}
-use Rattle.row_lending.specs.Tables.{overlay, slotTable, registerTable}
-use Rattle.row_lending.proofs.TableTypes.{tableTy, tableVal, table, table-tells, table-makes, table-typed, field-table}
-use Rattle.row_lending.proofs.LentTables.{slot-row, register-row}
+use Rattle.row_index.specs.Lent.{rowsWith, tablesWithCards}
+use Rattle.row_lending.specs.Tables.{overlay, slotTable, cardTable}
+use Rattle.row_lending.proofs.TableTypes.{tableTy, tableVal, table, Filled, table-tells, table-makes, table-typed, filled-long, field-table}
+use Rattle.row_lending.proofs.LentTables.{slot-row, slot-cell, card-cell}
 use Rattle.hand_proofs.proofs.Walk.{unset, holds, value, calls-plain, calls-on, says-all, leave, leave-room}
 use Rattle.row_lending.proofs.Lends.{calls-load, calls-store, gives-up}
+use Rattle.row_lending.proofs.Loan.{lends-table, table-back}
 use Rattle.row_lending.proofs.load_slots as load-slots
 use Rattle.row_lending.proofs.load_slots.Symbol as load-slots-def
 use Rattle.row_lending.proofs.load_slots.Met as load-slots-thm
-use Rattle.row_lending.proofs.load_registers as load-registers
-use Rattle.row_lending.proofs.load_registers.Symbol as load-registers-def
-use Rattle.row_lending.proofs.load_registers.Met as load-registers-thm
+use Rattle.row_lending.proofs.load_cards as load-cards
+use Rattle.row_lending.proofs.load_cards.Symbol as load-cards-def
+use Rattle.row_lending.proofs.load_cards.Met as load-cards-thm
 use Rattle.row_lending.proofs.store_slots as store-slots
 use Rattle.row_lending.proofs.store_slots.Symbol as store-slots-def
 use Rattle.row_lending.proofs.store_slots.Met as store-slots-thm
-use Rattle.row_lending.proofs.store_registers as store-registers
-use Rattle.row_lending.proofs.store_registers.Symbol as store-registers-def
-use Rattle.row_lending.proofs.store_registers.Met as store-registers-thm
+use Rattle.row_lending.proofs.store_cards as store-cards
+use Rattle.row_lending.proofs.store_cards.Symbol as store-cards-def
+use Rattle.row_lending.proofs.store_cards.Met as store-cards-thm
 use Rattle.decide_counts.specs.First.{firstRefusal}
 use Rattle.decide_counts.proofs.first_refusal as asks-first
 use Rattle.decide_counts.proofs.first_refusal.Symbol as asks-first-def
@@ -45,14 +49,14 @@ use Rattle.engine.specs.Answers.{answerOf}
 use Rattle.engine.specs.Calls.{callIn}
 use Rattle.entry_numbers.specs.Replies.{Replies}
 use Rattle.entry_numbers.specs.declared.Reply.{Reply}
-use Rattle.entry_numbers.specs.declared.AnsweredRows.{AnsweredRows}
+use Rattle.entry_numbers.specs.declared.Answered.{Answered}
 use Rattle.entry_numbers.proofs.Reply as reply
 use Rattle.entry_numbers.proofs.Reply.Laws as reply′
-use Rattle.entry_numbers.proofs.AnsweredRows as answered
-use Rattle.entry_numbers.proofs.AnsweredRows.Laws as answered′
-use Rattle.entry_numbers.proofs.answer_rows as answer
-use Rattle.entry_numbers.proofs.answer_rows.Symbol as answer-def
-use Rattle.entry_numbers.proofs.answer_rows.Met as answer-thm
+use Rattle.entry_numbers.proofs.Answered as answered
+use Rattle.entry_numbers.proofs.Answered.Laws as answered′
+use Rattle.entry_numbers.proofs.answer as answer
+use Rattle.entry_numbers.proofs.answer.Symbol as answer-def
+use Rattle.entry_numbers.proofs.answer.Met as answer-thm
 use Rattle.diminurel.specs.Handles.{Handles}
 use Rattle.diminurel.proofs.LentLaws.{loaded, stored, kept, refused-first}
 use Rattle.diminurel.proofs.diminurel_handle as entry
@@ -87,7 +91,10 @@ xval = LL.val supplement.the-type supplement′.the-laws
 abbrev yval : Reply → Val
 yval = LL.val reply.the-type reply′.the-laws
 
-abbrev aval : AnsweredRows → Val
+abbrev nval : Counts → Val
+nval = LL.val counts.the-type counts′.the-laws
+
+abbrev aval : Answered → Val
 aval = LL.val answered.the-type answered′.the-laws
 
 module _ {M : Type 1} (𝓤 : URA M) (H : Heap 𝓤) (A : Atoms 𝓤) (mem : Memory → SProp 𝓤) (run : Routine → Fun 𝓤) where
@@ -98,8 +105,8 @@ module _ {M : Type 1} (𝓤 : URA M) (H : Heap 𝓤) (A : Atoms 𝓤) (mem : Mem
   abbrev LoadSlots : Contract 𝓤
   LoadSlots = tripleOf 𝓤 H A load-slots.signature (load-slots.spec 𝓤 H A mem run)
 
-  abbrev LoadRegisters : Contract 𝓤
-  LoadRegisters = tripleOf 𝓤 H A load-registers.signature (load-registers.spec 𝓤 H A mem run)
+  abbrev LoadCards : Contract 𝓤
+  LoadCards = tripleOf 𝓤 H A load-cards.signature (load-cards.spec 𝓤 H A mem run)
 
   abbrev Answers : Contract 𝓤
   Answers = tripleOf 𝓤 H A answer.signature (answer.spec 𝓤 H A mem run)
@@ -107,11 +114,11 @@ module _ {M : Type 1} (𝓤 : URA M) (H : Heap 𝓤) (A : Atoms 𝓤) (mem : Mem
   abbrev StoreSlots : Contract 𝓤
   StoreSlots = tripleOf 𝓤 H A store-slots.signature (store-slots.spec 𝓤 H A mem run)
 
-  abbrev StoreRegisters : Contract 𝓤
-  StoreRegisters = tripleOf 𝓤 H A store-registers.signature (store-registers.spec 𝓤 H A mem run)
+  abbrev StoreCards : Contract 𝓤
+  StoreCards = tripleOf 𝓤 H A store-cards.signature (store-cards.spec 𝓤 H A mem run)
 
-  module _ (W : Given 𝓤 H A) (𝓣 : Tables 𝓤 H) (asks-first-known : Triple 𝓤 (𝓣 .C asks-first-def.name) AsksFirst) (load-slots-known : Triple 𝓤 (𝓣 .C load-slots-def.name) LoadSlots) (load-registers-known : Triple 𝓤 (𝓣 .C load-registers-def.name) LoadRegisters) (answer-known : Triple 𝓤 (𝓣 .C answer-def.name) Answers)
-      (store-slots-known : Triple 𝓤 (𝓣 .C store-slots-def.name) StoreSlots) (store-registers-known : Triple 𝓤 (𝓣 .C store-registers-def.name) StoreRegisters) where
+  module _ (W : Given 𝓤 H A) (𝓣 : Tables 𝓤 H) (asks-first-known : Triple 𝓤 (𝓣 .C asks-first-def.name) AsksFirst) (load-slots-known : Triple 𝓤 (𝓣 .C load-slots-def.name) LoadSlots) (load-cards-known : Triple 𝓤 (𝓣 .C load-cards-def.name) LoadCards) (answer-known : Triple 𝓤 (𝓣 .C answer-def.name) Answers)
+      (store-slots-known : Triple 𝓤 (𝓣 .C store-slots-def.name) StoreSlots) (store-cards-known : Triple 𝓤 (𝓣 .C store-cards-def.name) StoreCards) where
     -- ---- a call: the slots yS, the registers yR and the response yO lie where they are lent, for κ₀, κ₁ and κ₃; c is the supplement, xQ the request
     module _ (κ₀ κ₁ κ₂ κ₃ : Lft) (q₀ q₁ q₂ q₃ : Share) (bS oS : ℕ) (γS : GName) (yS : List SlotRow) (bR oR : ℕ) (γR : GName) (yR : List RegisterRow) (c : Supplement) (xQ : RefT (List ℕ)) (bO oO : ℕ) (γO : GName) (yO : List ℕ)
         (roomS : Room slot.the-row (length yS)) (roomR : Room register.the-row (length yR)) (c-is : Is supplement.the-row c (xval c ∷ [])) (roomQ : Room u8 (length (xQ .now))) (roomO : Room u8 (length yO)) where
@@ -142,43 +149,54 @@ module _ {M : Type 1} (𝓤 : URA M) (H : Heap 𝓤) (A : Atoms 𝓤) (mem : Mem
       abbrev Post : Val → SProp 𝓤
       Post = walkOf 𝓤 H A entry.ended stayed (entry.clauses 𝓤 H A mem run) .post (((κ₀, (κ₁, (κ₂, (κ₃, tt)))), (q₀, (q₁, (q₂, (q₃, tt)))), tt, a, at), tt)
 
-      -- the number that questions 1 and 2 come to, the tables, and what `answer_rows` ensures of its result r and of the response w
+      -- the number that questions 1 and 2 come to, the tables and the counts, and what `answer` ensures of its result r, of the cards d and of the response w
       abbrev f : ℕ
       f = firstRefusal (length yS) (length yR) (length yO)
 
       abbrev s : List SlotRow
       s = slotTable yS
 
-      abbrev t : List RegisterRow
-      t = registerTable yR
+      abbrev t : List (List ℕ)
+      t = cardTable yR
 
-      abbrev Replied : AnsweredRows → List ℕ → Type 0
-      Replied r w = Replies (loaded yS yR) (answerOf (callIn (loaded yS yR) c (xQ .now) (length yO))) yO w (r .reply) (tablesWith (r .slots) (length yS) (r .registers) (length yR))
+      abbrev n : Counts
+      n = record { slots = length yS; registers = length yR }
 
-      -- what it is passed, and that it is had
-      abbrev to-answer : Answers .Ghost
-      to-answer = (
-        (
-          (κ₂, (κ₃, tt)),
-          (q₂, (q₃, tt)),
+      n-is : Is counts.the-row n (nval n ∷ [])
+      n-is = LL.owes counts.the-type counts′.the-laws n ((refl, roomS .0), ((refl, roomR .0), tt))
+
+      abbrev Replied : Answered → List (List ℕ) → List ℕ → Type 0
+      Replied r d w = Replies (loaded yS yR) (answerOf (callIn (loaded yS yR) c (xQ .now) (length yO))) yO w (r .reply) (tablesWithCards (r .slots) (length yS) d (length yR))
+
+      -- what it is passed, the cards at (l, 0) lent for ν, and that it is had
+      module _ (l ν : ℕ) (γ : GName) where
+        abbrev xC : RefT (List (List ℕ))
+        xC = record { ptr = (l, 0); name = γ; now = t }
+
+        abbrev to-answer : Answers .Ghost
+        to-answer = (
+          (
+            (ν ∷ [], (κ₂, (κ₃, tt))),
+            (fullShare, (q₂, (q₃, tt))),
+            tt,
+            (s, (n, (xC, (c, (xQ, (xO, tt)))))),
+            (tableVal slot-cell s ∷ [], (nval n ∷ [], (slice-vals xC, (xval c ∷ [], (slice-vals xQ, (sO ∷ [], tt)))))),
+          ),
           tt,
-          (s, (length yS, (t, (length yR, (c, (xQ, (xO, tt))))))),
-          (tableVal slot-row s ∷ [], (vint w64 (length yS) ∷ [], (tableVal register-row t ∷ [], (vint w64 (length yR) ∷ [], (xval c ∷ [], (slice-vals xQ, (sO ∷ [], tt))))))),
-        ),
-        tt,
-      )
+        )
 
-      asks : Is (table slot-row 8) s (tableVal slot-row s ∷ []) → Is (table register-row 32) t (tableVal register-row t ∷ [])
-          → ent 𝓤 (⋆ 𝓤 H A (‵ (flft κ₂ q₂) ∷ ‵ (flft κ₃ q₃) ∷ ‵ (ShrSlice (named 2) κ₂ u8 .own xQ (slice-vals xQ)) ∷ ‵ (MutSlice (named 3) κ₃ u8 .own xO (sO ∷ [])) ∷ [])) (Answers .pre to-answer)
-      asks s-is t-is =
-          qed W (‵ (flft κ₂ q₂) ∷ ‵ (flft κ₃ q₃) ∷ ‵ (ShrSlice (named 2) κ₂ u8 .own xQ (slice-vals xQ)) ∷ ‵ (MutSlice (named 3) κ₃ u8 .own xO (sO ∷ [])) ∷ []) ∵ use0 W (raw (emp 𝓤)) (id⊢ 𝓤 (emp 𝓤)) $
-          -- [nothing asked; κ₂; κ₃; what request and response own]: the tokens
-          nothing ! $ move ! (3 ∷ 0 ∷ []) $ join ! $ move ! (2 ∷ 0 ∷ []) $ join ! $
-          -- [the tokens; nothing asked; what request and response own]: what the parameters own
-          nothing ! $ move ! (4 ∷ 0 ∷ []) $ fjoin ! $ move ! (3 ∷ 0 ∷ []) $ fjoin ! $ owned ! supplement.the-row (Is supplement.the-row) (LL.makes supplement.the-type supplement′.the-plain 𝓤 H A) c _ c-is $ fjoin ! $
-          owned ! usize (Is usize) (uint-makes 𝓤 H A W w64) (length yR) _ (refl, roomR .0) $ fjoin ! $ owned ! (table register-row 32) (Is (table register-row 32)) (table-makes register-row 32 𝓤 H A W) t _ t-is $ fjoin ! $
-          owned ! usize (Is usize) (uint-makes 𝓤 H A W w64) (length yS) _ (refl, roomS .0) $ fjoin ! $ owned ! (table slot-row 8) (Is (table slot-row 8)) (table-makes slot-row 8 𝓤 H A W) s _ s-is $ fjoin ! $
-          move ! (1 ∷ 0 ∷ []) $ join ! $ join ! $ done !
+        abbrev Handed : List (Item 𝓤)
+        Handed = ‵ (flft (ν ∷ []) fullShare) ∷ ‵ (flft κ₂ q₂) ∷ ‵ (flft κ₃ q₃) ∷ ‵ (MutSlice (named 0) (ν ∷ []) (card-cell .type) .own xC (slice-vals xC)) ∷ ‵ (ShrSlice (named 2) κ₂ u8 .own xQ (slice-vals xQ)) ∷ ‵ (MutSlice (named 3) κ₃ u8 .own xO (sO ∷ [])) ∷ []
+
+        asks : Filled slot-cell 8 s → Filled card-cell 32 t → ent 𝓤 (⋆ 𝓤 H A Handed) (Answers .pre to-answer)
+        asks s-is t-is =
+            qed W Handed ∵ use0 W (raw (fact 𝓤 (length t ≡ 32))) (factI 𝓤 _ (emp 𝓤) (filled-long card-cell 32 t t-is)) $
+            -- [what is asked; ν; κ₂; κ₃; what cards, request and response own]: the tokens
+            nothing ! $ move ! (4 ∷ 0 ∷ []) $ join ! $ move ! (3 ∷ 0 ∷ []) $ join ! $ move ! (2 ∷ 0 ∷ []) $ join ! $
+            -- [the tokens; what is asked; what cards, request and response own]: what the parameters own
+            nothing ! $ move ! (5 ∷ 0 ∷ []) $ fjoin ! $ move ! (4 ∷ 0 ∷ []) $ fjoin ! $ owned ! supplement.the-row (Is supplement.the-row) (LL.makes supplement.the-type supplement′.the-plain 𝓤 H A) c _ c-is $ fjoin ! $ move ! (3 ∷ 0 ∷ []) $ fjoin ! $
+            owned ! counts.the-row (Is counts.the-row) (LL.makes counts.the-type counts′.the-plain 𝓤 H A) n _ n-is $ fjoin ! $ owned ! (table slot-cell 8) (Is (table slot-cell 8)) (table-makes slot-cell 8 𝓤 H A W) s _ s-is $ fjoin ! $
+            move ! (1 ∷ 0 ∷ []) $ join ! $ join ! $ done !
 
       -- how a call ends: with the reply r, the rows zS and zR and the response w, which are what the contract says
       ends : (r : Reply) (zS : List SlotRow) (zR : List RegisterRow) (w : List ℕ) → Is reply.the-row r (yval r ∷ []) → length zS ≡ length yS → length zR ≡ length yR → length w ≡ length yO
@@ -193,7 +211,7 @@ module _ {M : Type 1} (𝓤 : URA M) (H : Heap 𝓤) (A : Atoms 𝓤) (mem : Mem
           nothing ! $ move ! (3 ∷ 0 ∷ []) $ fjoin ! $ nothing ! $ fjoin ! $ nothing ! $ fjoin ! $ move ! (2 ∷ 0 ∷ []) $ fjoin ! $ move ! (1 ∷ 0 ∷ []) $ fjoin ! $ frame ! $
           owned ! reply.the-row (Is reply.the-row) (LL.makes reply.the-type reply′.the-plain 𝓤 H A) r _ is $ done !
 
-      module _ (l₀ l₁ l₂ l₃ l₄ l₅ l₆ l₇ l₈ l₉ l₁₀ l₁₁ l₁₂ l₁₃ l₁₄ l₁₅ l₁₆ l₁₇ l₁₈ l₁₉ l₂₀ l₂₁ l₂₂ l₂₃ l₂₄ : ℕ) where
+      module _ (l₀ l₁ l₂ l₃ l₄ l₅ l₆ l₇ l₈ l₉ l₁₀ l₁₁ l₁₂ l₁₃ l₁₄ l₁₅ l₁₆ l₁₇ l₁₈ l₁₉ l₂₀ l₂₁ l₂₂ l₂₃ l₂₄ l₂₅ l₂₆ l₂₇ l₂₈ : ℕ) where
         abbrev S : Ty
         S = pointee (slot.the-row .written)
 
@@ -213,23 +231,26 @@ module _ {M : Type 1} (𝓤 : URA M) (H : Heap 𝓤) (A : Atoms 𝓤) (mem : Mem
         MutO = sliceTy (tyRef (named 3) mut (tyInt w8))
 
         abbrev Slots : Ty
-        Slots = tableTy slot-row 8
+        Slots = tableTy slot-cell 8
 
-        abbrev Registers : Ty
-        Registers = tableTy register-row 32
+        abbrev Card : Ty
+        Card = pointee (card-cell .type .written)
+
+        abbrev Cards : Ty
+        Cards = tableTy card-cell 32
 
         abbrev E : Env 𝓤 H
-        E = (reply′.mir, l₀) ∷ (MutS, l₁) ∷ (MutR, l₂) ∷ (supplement′.mir, l₃) ∷ (ImmQ, l₄) ∷ (MutO, l₅) ∷ (tyInt w8, l₆) ∷ (answered′.mir, l₇) ∷ (tyInt w64, l₈) ∷ (tyInt w64, l₉) ∷ (tyInt w64, l₁₀) ∷ (tyBool, l₁₁)
-            ∷ (Slots, l₁₂) ∷ (tyRef erased imm S, l₁₃) ∷ (sliceTy (tyRef erased imm S), l₁₄) ∷ (Registers, l₁₅) ∷ (tyRef erased imm R, l₁₆) ∷ (sliceTy (tyRef erased imm R), l₁₇) ∷ (tyRef erased mut (tyInt w8), l₁₈) ∷ (sliceTy (tyRef erased mut (tyInt w8)), l₁₉)
-            ∷ (tyUnit, l₂₀) ∷ (tyRef erased mut S, l₂₁) ∷ (sliceTy (tyRef erased mut S), l₂₂) ∷ (tyRef erased mut R, l₂₃) ∷ (sliceTy (tyRef erased mut R), l₂₄) ∷ []
+        E = (reply′.mir, l₀) ∷ (MutS, l₁) ∷ (MutR, l₂) ∷ (supplement′.mir, l₃) ∷ (ImmQ, l₄) ∷ (MutO, l₅) ∷ (tyInt w8, l₆) ∷ (Cards, l₇) ∷ (answered′.mir, l₈) ∷ (tyInt w64, l₉) ∷ (tyInt w64, l₁₀) ∷ (tyInt w64, l₁₁) ∷ (tyBool, l₁₂)
+            ∷ (Cards, l₁₃) ∷ (tyRef erased imm R, l₁₄) ∷ (sliceTy (tyRef erased imm R), l₁₅) ∷ (Slots, l₁₆) ∷ (tyRef erased imm S, l₁₇) ∷ (sliceTy (tyRef erased imm S), l₁₈) ∷ (counts′.mir, l₁₉) ∷ (tyRef erased mut Cards, l₂₀) ∷ (sliceTy (tyRef erased mut Card), l₂₁)
+            ∷ (tyRef erased mut (tyInt w8), l₂₂) ∷ (sliceTy (tyRef erased mut (tyInt w8)), l₂₃) ∷ (tyUnit, l₂₄) ∷ (tyRef erased mut S, l₂₅) ∷ (sliceTy (tyRef erased mut S), l₂₆) ∷ (tyRef erased mut R, l₂₇) ∷ (sliceTy (tyRef erased mut R), l₂₈) ∷ []
 
         -- the locals that storing sets, those that loading and answering set, and those of the parameters and the result
         abbrev Unstored : List (Item 𝓤)
-        Unstored = unset (sliceTy (tyRef erased mut R)) l₂₄ ++ unset (tyRef erased mut R) l₂₃ ++ unset (sliceTy (tyRef erased mut S)) l₂₂ ++ unset (tyRef erased mut S) l₂₁ ++ unset tyUnit l₂₀
+        Unstored = unset (sliceTy (tyRef erased mut R)) l₂₈ ++ unset (tyRef erased mut R) l₂₇ ++ unset (sliceTy (tyRef erased mut S)) l₂₆ ++ unset (tyRef erased mut S) l₂₅ ++ unset tyUnit l₂₄
 
         abbrev Unloaded : List (Item 𝓤)
-        Unloaded = unset (sliceTy (tyRef erased mut (tyInt w8))) l₁₉ ++ unset (tyRef erased mut (tyInt w8)) l₁₈ ++ unset (sliceTy (tyRef erased imm R)) l₁₇ ++ unset (tyRef erased imm R) l₁₆
-            ++ unset Registers l₁₅ ++ unset (sliceTy (tyRef erased imm S)) l₁₄ ++ unset (tyRef erased imm S) l₁₃ ++ unset Slots l₁₂
+        Unloaded = unset (sliceTy (tyRef erased mut (tyInt w8))) l₂₃ ++ unset (tyRef erased mut (tyInt w8)) l₂₂ ++ unset (sliceTy (tyRef erased mut Card)) l₂₁ ++ unset (tyRef erased mut Cards) l₂₀ ++ unset counts′.mir l₁₉
+            ++ unset (sliceTy (tyRef erased imm S)) l₁₈ ++ unset (tyRef erased imm S) l₁₇ ++ unset Slots l₁₆ ++ unset (sliceTy (tyRef erased imm R)) l₁₅ ++ unset (tyRef erased imm R) l₁₄ ++ unset Cards l₁₃
 
         abbrev Passed : List (Item 𝓤)
         Passed = holds MutO l₅ sO ++ holds ImmQ l₄ (sliceVal (xQ .ptr) (length (xQ .now))) ++ holds supplement′.mir l₃ (xval c) ++ holds MutR l₂ sR ++ holds MutS l₁ sS ++ unset reply′.mir l₀
@@ -240,22 +261,22 @@ module _ {M : Type 1} (𝓤 : URA M) (H : Heap 𝓤) (A : Atoms 𝓤) (mem : Mem
 
         -- what there is once the parameters are passed, from the last local,
         abbrev Start : List (Item 𝓤)
-        Start = Unstored ++ Unloaded ++ unset tyBool l₁₁ ++ unset (tyInt w64) l₁₀ ++ unset (tyInt w64) l₉ ++ unset (tyInt w64) l₈ ++ unset answered′.mir l₇ ++ unset (tyInt w8) l₆ ++ Passed ++ Owned
+        Start = Unstored ++ Unloaded ++ unset tyBool l₁₂ ++ unset (tyInt w64) l₁₁ ++ unset (tyInt w64) l₁₀ ++ unset (tyInt w64) l₉ ++ unset answered′.mir l₈ ++ unset Cards l₇ ++ unset (tyInt w8) l₆ ++ Passed ++ Owned
 
         -- once questions 1 and 2 are asked,
         abbrev Asked : List (Item 𝓤)
-        Asked = Unstored ++ Unloaded ++ holds tyBool l₁₁ (vbool (not (eqb f 0))) ++ holds (tyInt w64) l₁₀ (vint w64 (length yO)) ++ holds (tyInt w64) l₉ (vint w64 (length yR)) ++ holds (tyInt w64) l₈ (vint w64 (length yS))
-            ++ unset answered′.mir l₇ ++ holds (tyInt w8) l₆ (vint w8 f) ++ Passed ++ Owned
+        Asked = Unstored ++ Unloaded ++ holds tyBool l₁₂ (vbool (not (eqb f 0))) ++ holds (tyInt w64) l₁₁ (vint w64 (length yO)) ++ holds (tyInt w64) l₁₀ (vint w64 (length yR)) ++ holds (tyInt w64) l₉ (vint w64 (length yS))
+            ++ unset answered′.mir l₈ ++ unset Cards l₇ ++ holds (tyInt w8) l₆ (vint w8 f) ++ Passed ++ Owned
 
-        -- and once the tables are answered with r and w and the rows are zS and zR: the slots, the registers, what closes each, the response, the tokens, and the locals
-        abbrev After : AnsweredRows → List ℕ → List SlotRow → List RegisterRow → List (Item 𝓤)
-        After r w zS zR = ‵ (row slot.the-row fullShare zS bS oS) ∷ ‵ (fobor κ₀ q₀ (Held slot.the-row (length yS) bS oS γS)) ∷ ‵ (fobs γS (codedHoleys slot.the-row .code (heres slot.the-row yS))) ∷ ‵ (fauth γS (codedHoleys slot.the-row .code (heres slot.the-row yS)))
+        -- and once the tables are answered with r, d and w and the rows are zS and zR: the slots, the registers, what closes each, the response, the tokens, the cards, and the other locals
+        abbrev After : Answered → List (List ℕ) → List ℕ → List SlotRow → List RegisterRow → List (Item 𝓤)
+        After r d w zS zR = ‵ (row slot.the-row fullShare zS bS oS) ∷ ‵ (fobor κ₀ q₀ (Held slot.the-row (length yS) bS oS γS)) ∷ ‵ (fobs γS (codedHoleys slot.the-row .code (heres slot.the-row yS))) ∷ ‵ (fauth γS (codedHoleys slot.the-row .code (heres slot.the-row yS)))
             ∷ ‵ (row register.the-row fullShare zR bR oR) ∷ ‵ (fobor κ₁ q₁ (Held register.the-row (length yR) bR oR γR)) ∷ ‵ (fobs γR (codedHoleys register.the-row .code (heres register.the-row yR))) ∷ ‵ (fauth γR (codedHoleys register.the-row .code (heres register.the-row yR)))
-            ∷ ‵ (finally u8 γO w) ∷ ‵ (flft κ₂ q₂) ∷ ‵ (flft κ₃ q₃)
-            ∷ Unstored ++ holds (sliceTy (tyRef erased mut (tyInt w8))) l₁₉ sO ++ holds (tyRef erased mut (tyInt w8)) l₁₈ (vptr bO oO) ++ holds (sliceTy (tyRef erased imm R)) l₁₇ sR
-            ++ holds (tyRef erased imm R) l₁₆ (vptr bR oR) ++ holds Registers l₁₅ (tableVal register-row t) ++ holds (sliceTy (tyRef erased imm S)) l₁₄ sS ++ holds (tyRef erased imm S) l₁₃ (vptr bS oS)
-            ++ holds Slots l₁₂ (tableVal slot-row s) ++ holds tyBool l₁₁ (vbool (not (eqb (r .reply .outcome) 0))) ++ holds (tyInt w64) l₁₀ (vint w64 (length yO)) ++ holds (tyInt w64) l₉ (vint w64 (length yR)) ++ holds (tyInt w64) l₈ (vint w64 (length yS))
-            ++ holds answered′.mir l₇ (aval r) ++ holds (tyInt w8) l₆ (vint w8 f) ++ Passed
+            ∷ ‵ (finally u8 γO w) ∷ ‵ (flft κ₂ q₂) ∷ ‵ (flft κ₃ q₃) ∷ holds Cards l₇ (tableVal card-cell d)
+            ++ Unstored ++ holds (sliceTy (tyRef erased mut (tyInt w8))) l₂₃ sO ++ holds (tyRef erased mut (tyInt w8)) l₂₂ (vptr bO oO) ++ holds (sliceTy (tyRef erased mut Card)) l₂₁ (sliceVal (l₇, 0) (length t)) ++ holds (tyRef erased mut Cards) l₂₀ (vptr l₇ 0)
+            ++ holds counts′.mir l₁₉ (nval n) ++ holds (sliceTy (tyRef erased imm S)) l₁₈ sS ++ holds (tyRef erased imm S) l₁₇ (vptr bS oS) ++ holds Slots l₁₆ (tableVal slot-cell s) ++ holds (sliceTy (tyRef erased imm R)) l₁₅ sR
+            ++ holds (tyRef erased imm R) l₁₄ (vptr bR oR) ++ unset Cards l₁₃ ++ holds tyBool l₁₂ (vbool (not (eqb (r .reply .outcome) 0))) ++ holds (tyInt w64) l₁₁ (vint w64 (length yO)) ++ holds (tyInt w64) l₁₀ (vint w64 (length yR)) ++ holds (tyInt w64) l₉ (vint w64 (length yS))
+            ++ holds answered′.mir l₈ (aval r) ++ holds (tyInt w8) l₆ (vint w8 f) ++ Passed
 
         -- what follows an `if`, where its arm has not returned
         abbrev Then : Body → Kit.Post 𝓤 H
@@ -264,16 +285,16 @@ module _ {M : Type 1} (𝓤 : URA M) (H : Heap 𝓤) (A : Atoms 𝓤) (mem : Mem
         -- question 1 or 2 is a no: its number is returned, and every slice is given up as it was lent
         refuses : Is u8 f (vint w8 f ∷ []) → T (not (eqb f 0)) → Sq W Asked (runs (𝓣 .C) (𝓣 .Λ) E (seq (assign (place 0 []) (aggregate (copy (place 6 []) ∷ intNeg w8 1 ∷ int w64 0 ∷ []))) return) (Then mir.t-7))
         refuses f-is differs =
-            assigns ! (agg ! (and-then ! (value ! 36 refl) (and-then ! (neg-lit ! tt) (and-then ! (lit ! tt) (no-more !))))) (from ! (stop !)) (init ! 48 refl (LL.lawful reply.the-type reply′.the-laws 𝓤 H A W .typed first _ first-is .0)) $
-            move ! (50 ∷ 51 ∷ []) $ split ! $ move ! (1 ∷ []) $ split ! $ move ! (1 ∷ []) $ split ! $ move ! (1 ∷ []) $ split ! $ move ! (1 ∷ []) $ drop ! $
+            assigns ! (agg ! (and-then ! (value ! 44 refl) (and-then ! (neg-lit ! tt) (and-then ! (lit ! tt) (no-more !))))) (from ! (stop !)) (init ! 56 refl (LL.lawful reply.the-type reply′.the-laws 𝓤 H A W .typed first _ first-is .0)) $
+            move ! (58 ∷ 59 ∷ []) $ split ! $ move ! (1 ∷ []) $ split ! $ move ! (1 ∷ []) $ split ! $ move ! (1 ∷ []) $ split ! $ move ! (1 ∷ []) $ drop ! $
             -- [κ₃; κ₂; κ₁; κ₀; what the parameters own; …]
             move ! (4 ∷ []) $ fsplit ! $ fsplit ! $ drop ! $ fsplit ! $ gives-up ! slot.the-row yS $ move ! (1 ∷ []) $ drop ! $
             -- [the slots; what the others own; κ₃; …]
             move ! (1 ∷ []) $ fsplit ! $ fsplit ! $ drop ! $ fsplit ! $ gives-up ! register.the-row yR $ move ! (1 ∷ []) $ drop ! $
             -- [the registers; what the others own; the slots; κ₃; …]
             move ! (1 ∷ []) $ fsplit ! $ drop ! $ fsplit ! $ drop ! $ fsplit ! $ fsplit ! $ drop ! $ fsplit ! $ gives-up ! u8 yO $ move ! (1 ∷ 2 ∷ []) $ drop ! $ drop ! $
-            -- [the response; the registers; the slots; κ₃; κ₂; κ₁; κ₀; _24; …]: the locals die
-            returns-within ! Post refl (look ! 55 refl) $ leave ! 55 refl refl $ leave ! 53 refl refl $ leave ! 51 refl refl $ leave ! 49 refl refl $ leave ! 47 refl refl $ leave ! 45 refl refl $ leave ! 43 refl refl $ leave-room ! 41 refl refl $ leave ! 39 refl refl $ leave ! 37 refl refl $ leave ! 35 refl refl $ leave ! 33 refl refl $ leave-room ! 31 refl refl $ leave-room ! 29 refl refl $ leave-room ! 27 refl refl $ leave-room ! 25 refl refl $ leave-room ! 23 refl refl $ leave-room ! 21 refl refl $ leave-room ! 19 refl refl $ leave-room ! 17 refl refl $ leave-room ! 15 refl refl $ leave-room ! 13 refl refl $ leave-room ! 11 refl refl $ leave-room ! 9 refl refl $ leave-room ! 7 refl refl $ free0 ! $
+            -- [the response; the registers; the slots; κ₃; κ₂; κ₁; κ₀; _28; …]: the locals die
+            returns-within ! Post refl (look ! 63 refl) $ leave ! 63 refl refl $ leave ! 61 refl refl $ leave ! 59 refl refl $ leave ! 57 refl refl $ leave ! 55 refl refl $ leave ! 53 refl refl $ leave ! 51 refl refl $ leave-room ! 49 refl refl $ leave-room ! 47 refl refl $ leave ! 45 refl refl $ leave ! 43 refl refl $ leave ! 41 refl refl $ leave ! 39 refl refl $ leave-room ! 37 refl refl $ leave-room ! 35 refl refl $ leave-room ! 33 refl refl $ leave-room ! 31 refl refl $ leave-room ! 29 refl refl $ leave-room ! 27 refl refl $ leave-room ! 25 refl refl $ leave-room ! 23 refl refl $ leave-room ! 21 refl refl $ leave-room ! 19 refl refl $ leave-room ! 17 refl refl $ leave-room ! 15 refl refl $ leave-room ! 13 refl refl $ leave-room ! 11 refl refl $ leave-room ! 9 refl refl $ leave-room ! 7 refl refl $ free0 ! $
             move ! (2 ∷ 1 ∷ 0 ∷ 6 ∷ 5 ∷ 4 ∷ 3 ∷ []) $ ends first yS yR yO first-is refl refl refl (refused-first yS yR c (xQ .now) yO differs)
           where
             first : Reply
@@ -283,48 +304,85 @@ module _ {M : Type 1} (𝓤 : URA M) (H : Heap 𝓤) (A : Atoms 𝓤) (mem : Mem
             first-is = LL.owes reply.the-type reply′.the-laws first (f-is, ((refl, lit< tt), ((refl, lit< tt), tt)))
 
         -- the reply is returned, with the rows zS and zR
-        replies : (q : Kit.Post 𝓤 H) → Kit.post 𝓤 H q returned ≡ atReturn 𝓤 H E Post returned → (r : AnsweredRows) (w : List ℕ) (zS : List SlotRow) (zR : List RegisterRow) → Is answered.the-row r (aval r ∷ []) → length zS ≡ length yS → length zR ≡ length yR → length w ≡ length yO
+        replies : (q : Kit.Post 𝓤 H) → Kit.post 𝓤 H q returned ≡ atReturn 𝓤 H E Post returned → (r : Answered) (d : List (List ℕ)) (w : List ℕ) (zS : List SlotRow) (zR : List RegisterRow) → Is answered.the-row r (aval r ∷ []) → length zS ≡ length yS → length zR ≡ length yR → length w ≡ length yO
             → Handles (record { slots = yS; registers = yR }) (record { request = xQ .now; supplement = c; before = yO; after = w; outcome = r .reply .outcome; state = r .reply .state; size = r .reply .length }) (record { slots = zS; registers = zR })
-            → Sq W (After r w zS zR) (runs (𝓣 .C) (𝓣 .Λ) E mir.t-26 q)
-        replies q e r w zS zR is lenS lenR lenO promised =
+            → Sq W (After r d w zS zR) (runs (𝓣 .C) (𝓣 .Λ) E mir.t-31 q)
+        replies q e r d w zS zR is lenS lenR lenO promised =
             -- the two slices are closed, and given up
             closes-slice ! tt slot.the-row yS zS lenS bS oS $ gives-up ! slot.the-row zS $ move ! (3 ∷ 4 ∷ 5 ∷ 6 ∷ []) $ closes-slice ! tt register.the-row yR zR lenR bR oR $ gives-up ! register.the-row zR $
-            -- [the registers; their borrow; κ₁; the slots; their borrow; κ₀; the response; κ₂; κ₃; _24; …]: the locals die
-            assigns ! (of-opd ! (load ! (from ! (fld ! refl (stop !))) (look-in ! 43 (sub ! 0 refl (whole !))))) (from ! (stop !)) (init ! 57 refl (LL.lawful reply.the-type reply′.the-laws 𝓤 H A W .typed (r .reply) _ reply-is .0)) $
-            returns-within ! Post e (look ! 57 refl) $ leave ! 57 refl refl $ leave ! 55 refl refl $ leave ! 53 refl refl $ leave ! 51 refl refl $ leave ! 49 refl refl $ leave ! 47 refl refl $ leave ! 45 refl refl $ leave ! 43 refl refl $ leave ! 41 refl refl $ leave ! 39 refl refl $ leave ! 37 refl refl $ leave ! 35 refl refl $ leave ! 33 refl refl $ leave ! 31 refl refl $ leave ! 29 refl refl $ leave ! 27 refl refl $ leave ! 25 refl refl $ leave ! 23 refl refl $ leave ! 21 refl refl $ leave ! 19 refl refl $ leave-room ! 17 refl refl $ leave-room ! 15 refl refl $ leave-room ! 13 refl refl $ leave-room ! 11 refl refl $ leave-room ! 9 refl refl $ free0 ! $
+            -- [the registers; their borrow; κ₁; the slots; their borrow; κ₀; the response; κ₂; κ₃; _7; …; _28; …]: the locals die
+            assigns ! (of-opd ! (load ! (from ! (fld ! refl (stop !))) (look-in ! 51 (sub ! 0 refl (whole !))))) (from ! (stop !)) (init ! 65 refl (LL.lawful reply.the-type reply′.the-laws 𝓤 H A W .typed (r .reply) _ reply-is .0)) $
+            returns-within ! Post e (look ! 65 refl) $ leave ! 65 refl refl $ leave ! 63 refl refl $ leave ! 61 refl refl $ leave ! 59 refl refl $ leave ! 57 refl refl $ leave ! 55 refl refl $ leave ! 53 refl refl $ leave ! 9 refl refl $ leave ! 49 refl refl $ leave ! 47 refl refl $ leave ! 45 refl refl $ leave ! 43 refl refl $ leave ! 41 refl refl $ leave-room ! 39 refl refl $ leave ! 37 refl refl $ leave ! 35 refl refl $ leave ! 33 refl refl $ leave ! 31 refl refl $ leave ! 29 refl refl $ leave ! 27 refl refl $ leave ! 25 refl refl $ leave ! 23 refl refl $ leave ! 21 refl refl $ leave ! 19 refl refl $ leave-room ! 17 refl refl $ leave-room ! 15 refl refl $ leave-room ! 13 refl refl $ leave-room ! 11 refl refl $ leave-room ! 9 refl refl $ free0 ! $
             keep ! (3 ∷ 0 ∷ 6 ∷ 5 ∷ 2 ∷ 7 ∷ 8 ∷ []) $ ends (r .reply) zS zR w reply-is lenS lenR lenO promised
           where
             reply-is : Is reply.the-row (r .reply) (yval (r .reply) ∷ [])
             reply-is = LL.owed answered.the-type answered′.the-laws r _ is .0
 
         -- the rows are stored
-        stores : T (not (not (eqb f 0))) → (r : AnsweredRows) (w : List ℕ) → Is answered.the-row r (aval r ∷ []) → length w ≡ length yO → Replied r w → Sq W (After r w yS yR) (runs (𝓣 .C) (𝓣 .Λ) E mir.t-20 (atRet E Post))
-        stores asked r w is lenO replied =
+        stores : T (not (not (eqb f 0))) → (r : Answered) (d : List (List ℕ)) (w : List ℕ) → Is answered.the-row r (aval r ∷ []) → Filled card-cell 32 d → length w ≡ length yO → Replied r d w → Sq W (After r d w yS yR) (runs (𝓣 .C) (𝓣 .Λ) E mir.t-24 (atRet E Post))
+        stores asked r d w is d-is lenO replied =
             -- the slots are lent to the function that stores them
-            assigns ! (addr ! (from ! (fld ! refl (hop ! (look-in ! 57 (sub ! 0 refl (whole !))) (stop !))))) (from ! (stop !)) (init ! 17 refl (tt, tt)) $
-            assigns ! (agg ! (and-then ! (value ! 17 refl) (and-then ! (load ! (from ! (fld ! refl (stop !))) (look-in ! 57 (sub ! 1 refl (whole !)))) (no-more !)))) (from ! (stop !)) (init ! 15 refl (tt, (tt, (record { fits = roomS .0 }, tt)))) $
-            calls-store ! (fmOf 𝓤 H (W .laws) 𝓣) slot.the-row (table slot-row 8) (store-slots.clauses 𝓤 H A mem run) store-slots-known yS bS oS roomS (r .slots) _ (table-makes slot-row 8 𝓤 H A W) (field-table slot-row 8 (r .slots) _ (LL.owed answered.the-type answered′.the-laws r _ is .1 .0)) (λ _ _. tt) (λ _ _. id⊢ 𝓤 (emp 𝓤)) zS (λ _ _ _ _. id⊢ 𝓤 _)
-            (λ _ _. and-then ! (value ! 16 refl) (and-then ! (load ! (from ! (fld ! refl (stop !))) (look-in ! 46 (sub ! 1 refl (whole !)))) (no-more !))) (λ lenS. land ! (from ! (stop !)) (init ! 19 refl (tt, tt)) $ move ! (4 ∷ []) $
+            assigns ! (addr ! (from ! (fld ! refl (hop ! (look-in ! 65 (sub ! 0 refl (whole !))) (stop !))))) (from ! (stop !)) (init ! 19 refl (tt, tt)) $
+            assigns ! (agg ! (and-then ! (value ! 19 refl) (and-then ! (load ! (from ! (fld ! refl (stop !))) (look-in ! 65 (sub ! 1 refl (whole !)))) (no-more !)))) (from ! (stop !)) (init ! 17 refl (tt, (tt, (record { fits = roomS .0 }, tt)))) $
+            calls-store ! (fmOf 𝓤 H (W .laws) 𝓣) slot.the-row (table slot-cell 8) (store-slots.clauses 𝓤 H A mem run) store-slots-known yS bS oS roomS (r .slots) _ (table-makes slot-cell 8 𝓤 H A W) (field-table slot-row 8 (r .slots) _ (LL.owed answered.the-type answered′.the-laws r _ is .1 .0)) (λ _ _. tt) (λ _ _. id⊢ 𝓤 (emp 𝓤)) zS (λ _ _ _ _. id⊢ 𝓤 _)
+            (λ _ _. and-then ! (value ! 18 refl) (and-then ! (load ! (from ! (fld ! refl (stop !))) (look-in ! 54 (sub ! 1 refl (whole !)))) (no-more !))) (λ lenS. land ! (from ! (stop !)) (init ! 21 refl (tt, tt)) $ move ! (4 ∷ []) $
             -- and so the registers
-            assigns ! (addr ! (from ! (fld ! refl (hop ! (look-in ! 55 (sub ! 0 refl (whole !))) (stop !))))) (from ! (stop !)) (init ! 13 refl (tt, tt)) $
-            assigns ! (agg ! (and-then ! (value ! 13 refl) (and-then ! (load ! (from ! (fld ! refl (stop !))) (look-in ! 55 (sub ! 1 refl (whole !)))) (no-more !)))) (from ! (stop !)) (init ! 11 refl (tt, (tt, (record { fits = roomR .0 }, tt)))) $
-            calls-store ! (fmOf 𝓤 H (W .laws) 𝓣) register.the-row (table register-row 32) (store-registers.clauses 𝓤 H A mem run) store-registers-known yR bR oR roomR (r .registers) _ (table-makes register-row 32 𝓤 H A W) (field-table register-row 32 (r .registers) _ (LL.owed answered.the-type answered′.the-laws r _ is .1 .1 .0)) (λ _ _. tt) (λ _ _. id⊢ 𝓤 (emp 𝓤)) zR (λ _ _ _ _. id⊢ 𝓤 _)
-            (λ _ _. and-then ! (value ! 12 refl) (and-then ! (load ! (from ! (fld ! refl (stop !))) (look-in ! 46 (sub ! 2 refl (whole !)))) (no-more !))) (λ lenR. land ! (from ! (stop !)) (store ! 19 refl (tt, tt)) $
+            assigns ! (addr ! (from ! (fld ! refl (hop ! (look-in ! 63 (sub ! 0 refl (whole !))) (stop !))))) (from ! (stop !)) (init ! 15 refl (tt, tt)) $
+            assigns ! (agg ! (and-then ! (value ! 15 refl) (and-then ! (load ! (from ! (fld ! refl (stop !))) (look-in ! 63 (sub ! 1 refl (whole !)))) (no-more !)))) (from ! (stop !)) (init ! 13 refl (tt, (tt, (record { fits = roomR .0 }, tt)))) $
+            assigns ! (of-opd ! (value ! 11 refl)) (from ! (stop !)) (init ! 43 refl (table-typed card-cell 32 𝓤 H A W d _ d-is)) $
+            calls-store ! (fmOf 𝓤 H (W .laws) 𝓣) register.the-row (table card-cell 32) (store-cards.clauses 𝓤 H A mem run) store-cards-known yR bR oR roomR d (tableVal card-cell d) (table-makes card-cell 32 𝓤 H A W) d-is (λ _ _. tt) (λ _ _. id⊢ 𝓤 (emp 𝓤)) zR (λ _ _ _ _. id⊢ 𝓤 _)
+            (λ _ _. and-then ! (value ! 14 refl) (and-then ! (value ! 44 refl) (no-more !))) (λ lenR. land ! (from ! (stop !)) (store ! 21 refl (tt, tt)) $
             -- what storing made is forgotten
-            move ! (1 ∷ 2 ∷ 3 ∷ 4 ∷ 0 ∷ []) $ forget ! 11 refl $ forget ! 13 refl $ forget ! 15 refl $ forget ! 17 refl $ forget ! 19 refl $
-            replies (atRet E Post) refl r w zS zR is lenS lenR lenO (stored yS yR c (xQ .now) yO asked (r .reply) w _ replied)))
+            move ! (1 ∷ 2 ∷ 3 ∷ 4 ∷ 0 ∷ []) $ forget ! 13 refl $ forget ! 15 refl $ forget ! 17 refl $ forget ! 19 refl $ forget ! 21 refl $ forget ! 43 refl $
+            replies (atRet E Post) refl r d w zS zR is lenS lenR lenO (stored yS yR c (xQ .now) yO asked (r .reply) w _ replied)))
           where
             zS : List SlotRow
             zS = overlay (r .slots) yS
 
             zR : List RegisterRow
-            zR = overlay (r .registers) yR
+            zR = overlay (rowsWith d) yR
 
-        -- the rows are loaded and answered; a refusal stores none
+        -- what there is once the rows are loaded: the slots, the registers, what closes each, the tokens, what request and response own, and the locals
+        abbrev Loaded : List (Item 𝓤)
+        Loaded = ‵ (row slot.the-row fullShare yS bS oS) ∷ ‵ (row register.the-row fullShare yR bR oR) ∷ ‵ (fobor κ₁ q₁ (Held register.the-row (length yR) bR oR γR)) ∷ ‵ (fobs γR (codedHoleys register.the-row .code (heres register.the-row yR))) ∷ ‵ (fauth γR (codedHoleys register.the-row .code (heres register.the-row yR)))
+            ∷ ‵ (fobor κ₀ q₀ (Held slot.the-row (length yS) bS oS γS)) ∷ ‵ (fobs γS (codedHoleys slot.the-row .code (heres slot.the-row yS))) ∷ ‵ (fauth γS (codedHoleys slot.the-row .code (heres slot.the-row yS)))
+            ∷ ‵ (flft κ₂ q₂) ∷ ‵ (flft κ₃ q₃) ∷ ‵ (ShrSlice (named 2) κ₂ u8 .own xQ (slice-vals xQ)) ∷ ‵ (MutSlice (named 3) κ₃ u8 .own xO (sO ∷ []))
+            ∷ Unstored ++ holds (sliceTy (tyRef erased mut (tyInt w8))) l₂₃ sO ++ holds (tyRef erased mut (tyInt w8)) l₂₂ (vptr bO oO) ++ holds (sliceTy (tyRef erased mut Card)) l₂₁ (sliceVal (l₇, 0) (length t)) ++ holds (tyRef erased mut Cards) l₂₀ (vptr l₇ 0)
+            ++ holds counts′.mir l₁₉ (nval n) ++ holds (sliceTy (tyRef erased imm S)) l₁₈ sS ++ holds (tyRef erased imm S) l₁₇ (vptr bS oS) ++ holds Slots l₁₆ (tableVal slot-cell s) ++ holds (sliceTy (tyRef erased imm R)) l₁₅ sR
+            ++ holds (tyRef erased imm R) l₁₄ (vptr bR oR) ++ holds Cards l₁₃ (tableVal card-cell t) ++ holds tyBool l₁₂ (vbool (not (eqb f 0))) ++ holds (tyInt w64) l₁₁ (vint w64 (length yO)) ++ holds (tyInt w64) l₁₀ (vint w64 (length yR)) ++ holds (tyInt w64) l₉ (vint w64 (length yS))
+            ++ unset answered′.mir l₈ ++ holds Cards l₇ (tableVal card-cell t) ++ holds (tyInt w8) l₆ (vint w8 f) ++ Passed
+
+        -- the tables are answered; a refusal stores none
+        asks-tables : T (not (not (eqb f 0))) → Filled slot-cell 8 s → Filled card-cell 32 t → Sq W Loaded (runs (𝓣 .C) (𝓣 .Λ) E mir.t-21 (atRet E Post))
+        asks-tables asked s-is t-is =
+            -- the cards are lent
+            move ! (54 ∷ 55 ∷ []) $ lends-table ! tt card-cell tt 32 (lit< tt, lit< tt) t t-is l₇ (λ ν γ.
+            -- [ν; the cards; what the lender keeps; _7; the slots; the registers; …; …; …; …; …; …; κ₂; κ₃; request; response; _28; …]
+            move ! (0 ∷ 12 ∷ 13 ∷ 1 ∷ 14 ∷ 15 ∷ []) $ group ! 6 $
+            calls-on ! (fmOf 𝓤 H (W .laws) 𝓣) answer.ended (answer.clauses 𝓤 H A mem run) answer-known (to-answer l₇ ν γ .0) tt (asks l₇ ν γ s-is t-is) aval (LL.tells answered.the-type answered′.the-laws)
+            (and-then ! (value ! 35 refl) (and-then ! (value ! 29 refl) (and-then ! (value ! 25 refl) (and-then ! (value ! 59 refl) (and-then ! (value ! 57 refl) (and-then ! (value ! 21 refl) (no-more !))))))) (λ r ws is.
+            -- [the tokens; what is said of the last values; the `ensures`; what the lender keeps; _7; the slots; the registers; …; _28; …]: what it ensures is learned
+            move ! (2 ∷ []) $ use1 W (raw (fact 𝓤 (Replied r (ws .1 .1 .0) (ws .1 .1 .1 .1 .1 .0)))) (id⊢ 𝓤 _) $ heard ! (Replied r (ws .1 .1 .0) (ws .1 .1 .1 .1 .1 .0)) (λ replied.
+            -- the tokens are back
+            use1 W (‵ (flft (ν ∷ []) fullShare) ⊛ ‵ (flft κ₂ q₂) ⊛ ‵ (flft κ₃ q₃) ⊛ ‵ ftrue) (id⊢ 𝓤 _) $ split ! $ move ! (1 ∷ []) $ split ! $ move ! (1 ∷ []) $ split ! $ move ! (1 ∷ []) $ drop ! $
+            -- [κ₃; κ₂; ν; what is said of the last values; …]: the last cards, and the response's last bytes
+            move ! (3 ∷ []) $ fsplit ! $ drop ! $ fsplit ! $ drop ! $ fsplit ! $ fsplit ! $ move ! (1 ∷ []) $ feqL ! (λ _. move ! (1 ∷ []) $
+            fsplit ! $ drop ! $ fsplit ! $ drop ! $ fsplit ! $ fsplit ! $ move ! (1 ∷ 2 ∷ []) $ feqL ! (λ lenO. drop ! $
+            -- [the response; the cards; κ₃; κ₂; ν; what the lender keeps; _7; the slots; …]: the cards are back
+            move ! (4 ∷ 1 ∷ 5 ∷ []) $ table-back ! tt card-cell 32 (ws .1 .1 .0) l₇ ν γ (λ d-is.
+            -- [_7; the response; κ₃; κ₂; …; the slots; the registers; …; …; …; …; …; …; _28; …]
+            move ! (5 ∷ 10 ∷ 11 ∷ 12 ∷ 6 ∷ 7 ∷ 8 ∷ 9 ∷ 1 ∷ 3 ∷ 2 ∷ 0 ∷ 4 ∷ []) $
+            land ! (from ! (stop !)) (init ! 53 refl (LL.lawful answered.the-type answered′.the-laws 𝓤 H A W .typed r _ is .0)) $
+            assigns ! (bin ! (load ! (from ! (fld ! refl (fld ! refl (stop !)))) (look-in ! 53 (sub ! 0 refl (sub ! 0 refl (whole !))))) (lit ! tt) tt) (from ! (stop !)) (store ! 45 refl (tt, tt)) $ forget ! 43 refl $
+            first ! $ branches ! (value ! 45 refl)
+            (λ differs. replies (Then mir.t-24) refl r (ws .1 .1 .0) (ws .1 .1 .1 .1 .1 .0) yS yR is refl refl lenO (kept yS yR c (xQ .now) yO asked (r .reply) _ _ replied differs))
+            (λ _. skips ! $ exec ! (𝓣 .C) (𝓣 .Λ) E mir.t-24 (atRet E Post) $ stores asked r (ws .1 .1 .0) (ws .1 .1 .1 .1 .1 .0) is d-is lenO replied)))))))
+
+        -- the rows are loaded, and what the tables are asked with is made
         answers : T (not (not (eqb f 0))) → Sq W Asked (runs (𝓣 .C) (𝓣 .Λ) E mir.t-7 (atRet E Post))
         answers asked =
             -- the tokens and what the parameters own are taken apart, and the two slices of rows are opened
-            move ! (50 ∷ 51 ∷ []) $ split ! $ move ! (1 ∷ []) $ split ! $ move ! (1 ∷ []) $ split ! $ move ! (1 ∷ []) $ split ! $ move ! (1 ∷ []) $ drop ! $
+            move ! (58 ∷ 59 ∷ []) $ split ! $ move ! (1 ∷ []) $ split ! $ move ! (1 ∷ []) $ split ! $ move ! (1 ∷ []) $ split ! $ move ! (1 ∷ []) $ drop ! $
             -- [κ₃; κ₂; κ₁; κ₀; what the parameters own; …]
             move ! (4 ∷ []) $ fsplit ! $ fsplit ! $ drop ! $ fsplit ! $ move ! (0 ∷ 1 ∷ 6 ∷ []) $ opens-slice ! tt slot.the-row yS bS oS $
             -- [the slots; the open borrow; obs; auth; what the others own; κ₃; κ₂; κ₁; …]
@@ -332,60 +390,51 @@ module _ {M : Type 1} (𝓤 : URA M) (H : Heap 𝓤) (A : Atoms 𝓤) (mem : Mem
             -- [the registers; the open borrow; obs; auth; what the others own; the slots; …; …; …; κ₃; κ₂; …]
             move ! (4 ∷ []) $ fsplit ! $ drop ! $ fsplit ! $ move ! (1 ∷ []) $ fsplit ! $ move ! (1 ∷ []) $ drop ! $
             -- [what response owns; request; the registers; …; …; …; the slots; …; …; …; κ₃; κ₂; …]
-            move ! (6 ∷ 7 ∷ 8 ∷ 9 ∷ 2 ∷ 3 ∷ 4 ∷ 5 ∷ 11 ∷ 10 ∷ 1 ∷ 0 ∷ []) $
-            -- [the slots; …; …; …; the registers; …; …; …; κ₂; κ₃; request; response; _24; …]: the slots are lent to the function that loads them
-            assigns ! (addr ! (from ! (fld ! refl (hop ! (look-in ! 58 (sub ! 0 refl (whole !))) (stop !))))) (from ! (stop !)) (init ! 34 refl (tt, tt)) $
-            assigns ! (agg ! (and-then ! (value ! 34 refl) (and-then ! (load ! (from ! (fld ! refl (stop !))) (look-in ! 58 (sub ! 1 refl (whole !)))) (no-more !)))) (from ! (stop !)) (init ! 32 refl (tt, (tt, (record { fits = roomS .0 }, tt)))) $
-            calls-load ! (fmOf 𝓤 H (W .laws) 𝓣) slot.the-row (table slot-row 8) (load-slots.clauses 𝓤 H A mem run) load-slots-known yS bS oS roomS (λ _ _. tt) (λ _ _. id⊢ 𝓤 (emp 𝓤)) (λ rs. tableVal slot-row rs ∷ []) (table-tells slot-row 8) s (tableVal slot-row s) refl (λ _ _ _ _. id⊢ 𝓤 _)
-            (λ _ _. and-then ! (value ! 33 refl) (no-more !)) (λ s-is. land ! (from ! (stop !)) (init ! 36 refl (table-typed slot-row 8 𝓤 H A W s _ s-is)) $
-            assigns ! (of-opd ! (load ! (from ! (fld ! refl (stop !))) (look-in ! 58 (sub ! 1 refl (whole !))))) (from ! (stop !)) (store ! 44 refl (tt, record { fits = roomS .0 })) $ move ! (4 ∷ []) $
-            -- and so the registers
-            assigns ! (addr ! (from ! (fld ! refl (hop ! (look-in ! 56 (sub ! 0 refl (whole !))) (stop !))))) (from ! (stop !)) (init ! 28 refl (tt, tt)) $
-            assigns ! (agg ! (and-then ! (value ! 28 refl) (and-then ! (load ! (from ! (fld ! refl (stop !))) (look-in ! 56 (sub ! 1 refl (whole !)))) (no-more !)))) (from ! (stop !)) (init ! 26 refl (tt, (tt, (record { fits = roomR .0 }, tt)))) $
-            calls-load ! (fmOf 𝓤 H (W .laws) 𝓣) register.the-row (table register-row 32) (load-registers.clauses 𝓤 H A mem run) load-registers-known yR bR oR roomR (λ _ _. tt) (λ _ _. id⊢ 𝓤 (emp 𝓤)) (λ rs. tableVal register-row rs ∷ []) (table-tells register-row 32) t (tableVal register-row t) refl (λ _ _ _ _. id⊢ 𝓤 _)
-            (λ _ _. and-then ! (value ! 27 refl) (no-more !)) (λ t-is. land ! (from ! (stop !)) (init ! 30 refl (table-typed register-row 32 𝓤 H A W t _ t-is)) $
-            assigns ! (of-opd ! (load ! (from ! (fld ! refl (stop !))) (look-in ! 56 (sub ! 1 refl (whole !))))) (from ! (stop !)) (store ! 42 refl (tt, record { fits = roomR .0 })) $
+            move ! (2 ∷ 3 ∷ 4 ∷ 5 ∷ 6 ∷ 7 ∷ 8 ∷ 9 ∷ 11 ∷ 10 ∷ 1 ∷ 0 ∷ []) $
+            -- [the registers; …; …; …; the slots; …; …; …; κ₂; κ₃; request; response; _28; …]: the registers are lent to the function that loads their cards
+            assigns ! (addr ! (from ! (fld ! refl (hop ! (look-in ! 64 (sub ! 0 refl (whole !))) (stop !))))) (from ! (stop !)) (init ! 40 refl (tt, tt)) $
+            assigns ! (agg ! (and-then ! (value ! 40 refl) (and-then ! (load ! (from ! (fld ! refl (stop !))) (look-in ! 64 (sub ! 1 refl (whole !)))) (no-more !)))) (from ! (stop !)) (init ! 38 refl (tt, (tt, (record { fits = roomR .0 }, tt)))) $
+            calls-load ! (fmOf 𝓤 H (W .laws) 𝓣) register.the-row (table card-cell 32) (load-cards.clauses 𝓤 H A mem run) load-cards-known yR bR oR roomR (λ _ _. tt) (λ _ _. id⊢ 𝓤 (emp 𝓤)) (λ cs. tableVal card-cell cs ∷ []) (table-tells card-cell 32) t (tableVal card-cell t) refl (λ _ _ _ _. id⊢ 𝓤 _)
+            (λ _ _. and-then ! (value ! 39 refl) (no-more !)) (λ t-is. land ! (from ! (stop !)) (init ! 42 refl (table-typed card-cell 32 𝓤 H A W t _ t-is)) $
+            assigns ! (of-opd ! (value ! 42 refl)) (from ! (stop !)) (init ! 54 refl (table-typed card-cell 32 𝓤 H A W t _ t-is)) $ move ! (4 ∷ []) $
+            -- and so the slots, as rows
+            assigns ! (addr ! (from ! (fld ! refl (hop ! (look-in ! 66 (sub ! 0 refl (whole !))) (stop !))))) (from ! (stop !)) (init ! 34 refl (tt, tt)) $
+            assigns ! (agg ! (and-then ! (value ! 34 refl) (and-then ! (load ! (from ! (fld ! refl (stop !))) (look-in ! 66 (sub ! 1 refl (whole !)))) (no-more !)))) (from ! (stop !)) (init ! 32 refl (tt, (tt, (record { fits = roomS .0 }, tt)))) $
+            calls-load ! (fmOf 𝓤 H (W .laws) 𝓣) slot.the-row (table slot-cell 8) (load-slots.clauses 𝓤 H A mem run) load-slots-known yS bS oS roomS (λ _ _. tt) (λ _ _. id⊢ 𝓤 (emp 𝓤)) (λ rs. tableVal slot-cell rs ∷ []) (table-tells slot-cell 8) s (tableVal slot-cell s) refl (λ _ _ _ _. id⊢ 𝓤 _)
+            (λ _ _. and-then ! (value ! 33 refl) (no-more !)) (λ s-is. land ! (from ! (stop !)) (init ! 36 refl (table-typed slot-cell 8 𝓤 H A W s _ s-is)) $
+            -- the counts
+            assigns ! (of-opd ! (load ! (from ! (fld ! refl (stop !))) (look-in ! 66 (sub ! 1 refl (whole !))))) (from ! (stop !)) (store ! 50 refl (tt, record { fits = roomS .0 })) $
+            assigns ! (of-opd ! (load ! (from ! (fld ! refl (stop !))) (look-in ! 64 (sub ! 1 refl (whole !))))) (from ! (stop !)) (store ! 48 refl (tt, record { fits = roomR .0 })) $
+            assigns ! (agg ! (and-then ! (value ! 50 refl) (and-then ! (value ! 48 refl) (no-more !)))) (from ! (stop !)) (init ! 30 refl (LL.lawful counts.the-type counts′.the-laws 𝓤 H A W .typed n _ n-is .0)) $
+            -- where the cards lie, and how many
+            assigns ! (addr ! (from ! (stop !))) (from ! (stop !)) (init ! 28 refl (tt, tt)) $
+            assigns ! (agg ! (and-then ! (value ! 28 refl) (and-then ! (lit ! tt) (no-more !)))) (from ! (stop !)) (init ! 26 refl (tt, (tt, (record { fits = lit< tt }, tt)))) $
+            rewrite ! 26 (λ (m : ℕ). ‵ (fat fullShare (sliceTy (tyRef erased mut Card)) l₂₁ 0 (sliceVal (l₇, 0) m))) (sym (filled-long card-cell 32 t t-is)) refl $
             -- the response is passed on
-            assigns ! (addr ! (from ! (fld ! refl (hop ! (look-in ! 50 (sub ! 0 refl (whole !))) (stop !))))) (from ! (stop !)) (init ! 24 refl (tt, tt)) $
-            assigns ! (agg ! (and-then ! (value ! 24 refl) (and-then ! (load ! (from ! (fld ! refl (stop !))) (look-in ! 50 (sub ! 1 refl (whole !)))) (no-more !)))) (from ! (stop !)) (init ! 22 refl (tt, (tt, (record { fits = roomO .0 }, tt)))) $
-            -- the tables are answered
-            move ! (8 ∷ 9 ∷ 10 ∷ 11 ∷ []) $ group ! 4 $
-            calls-on ! (fmOf 𝓤 H (W .laws) 𝓣) answer.ended (answer.clauses 𝓤 H A mem run) answer-known (to-answer .0) tt (asks s-is t-is) aval (LL.tells answered.the-type answered′.the-laws)
-            (and-then ! (value ! 33 refl) (and-then ! (value ! 41 refl) (and-then ! (value ! 27 refl) (and-then ! (value ! 39 refl) (and-then ! (value ! 51 refl) (and-then ! (value ! 49 refl) (and-then ! (value ! 19 refl) (no-more !)))))))) (λ r ws is.
-            -- [κ₂ and κ₃; what is said of the last values; the `ensures`; the registers; the slots; …; …; …; …; …; …; _24; …]: what it ensures is learned
-            move ! (2 ∷ []) $ use1 W (raw (fact 𝓤 (Replied r (ws .1 .1 .1 .1 .1 .1 .0)))) (id⊢ 𝓤 _) $ heard ! (Replied r (ws .1 .1 .1 .1 .1 .1 .0)) (λ replied.
-            -- the tokens are back
-            use1 W (‵ (flft κ₂ q₂) ⊛ ‵ (flft κ₃ q₃) ⊛ ‵ ftrue) (id⊢ 𝓤 _) $ split ! $ move ! (1 ∷ []) $ split ! $ move ! (1 ∷ []) $ drop ! $
-            -- [κ₃; κ₂; what is said of the last values; …]: the response's last bytes
-            move ! (2 ∷ []) $ fsplit ! $ drop ! $ fsplit ! $ drop ! $ fsplit ! $ drop ! $ fsplit ! $ drop ! $ fsplit ! $ drop ! $ fsplit ! $ drop ! $ fsplit ! $ fsplit ! $ move ! (1 ∷ 2 ∷ []) $ feqL ! (λ lenO. drop ! $
-            -- [the response; κ₃; κ₂; the registers; the slots; …; …; …; …; …; …; _24; …]
-            land ! (from ! (stop !)) (init ! 45 refl (LL.lawful answered.the-type answered′.the-laws 𝓤 H A W .typed r _ is .0)) $
-            move ! (4 ∷ 5 ∷ 6 ∷ 7 ∷ 3 ∷ 8 ∷ 9 ∷ 10 ∷ 0 ∷ 2 ∷ 1 ∷ []) $
-            assigns ! (bin ! (load ! (from ! (fld ! refl (fld ! refl (stop !)))) (look-in ! 45 (sub ! 0 refl (sub ! 0 refl (whole !))))) (lit ! tt) tt) (from ! (stop !)) (store ! 37 refl (tt, tt)) $
-            first ! $ branches ! (value ! 37 refl)
-            (λ differs. replies (Then mir.t-20) refl r (ws .1 .1 .1 .1 .1 .1 .0) yS yR is refl refl lenO (kept yS yR c (xQ .now) yO asked (r .reply) _ _ replied differs))
-            (λ _. skips ! $ exec ! (𝓣 .C) (𝓣 .Λ) E mir.t-20 (atRet E Post) $ stores asked r (ws .1 .1 .1 .1 .1 .1 .0) is lenO replied))))))
+            assigns ! (addr ! (from ! (fld ! refl (hop ! (look-in ! 58 (sub ! 0 refl (whole !))) (stop !))))) (from ! (stop !)) (init ! 24 refl (tt, tt)) $
+            assigns ! (agg ! (and-then ! (value ! 24 refl) (and-then ! (load ! (from ! (fld ! refl (stop !))) (look-in ! 58 (sub ! 1 refl (whole !)))) (no-more !)))) (from ! (stop !)) (init ! 22 refl (tt, (tt, (record { fits = roomO .0 }, tt)))) $
+            asks-tables asked s-is t-is))
 
         begins : Sq W Start (runs (𝓣 .C) (𝓣 .Λ) E mir.t-1 (atRet E Post))
         begins =
             -- questions 1 and 2 are asked
-            assigns ! (of-opd ! (load ! (from ! (fld ! refl (stop !))) (look-in ! 46 (sub ! 1 refl (whole !))))) (from ! (stop !)) (init ! 32 refl (tt, record { fits = roomS .0 })) $
-            assigns ! (of-opd ! (load ! (from ! (fld ! refl (stop !))) (look-in ! 44 (sub ! 1 refl (whole !))))) (from ! (stop !)) (init ! 30 refl (tt, record { fits = roomR .0 })) $
-            assigns ! (of-opd ! (load ! (from ! (fld ! refl (stop !))) (look-in ! 38 (sub ! 1 refl (whole !))))) (from ! (stop !)) (init ! 28 refl (tt, record { fits = roomO .0 })) $
+            assigns ! (of-opd ! (load ! (from ! (fld ! refl (stop !))) (look-in ! 54 (sub ! 1 refl (whole !))))) (from ! (stop !)) (init ! 38 refl (tt, record { fits = roomS .0 })) $
+            assigns ! (of-opd ! (load ! (from ! (fld ! refl (stop !))) (look-in ! 52 (sub ! 1 refl (whole !))))) (from ! (stop !)) (init ! 36 refl (tt, record { fits = roomR .0 })) $
+            assigns ! (of-opd ! (load ! (from ! (fld ! refl (stop !))) (look-in ! 46 (sub ! 1 refl (whole !))))) (from ! (stop !)) (init ! 34 refl (tt, record { fits = roomO .0 })) $
             calls-plain ! (fmOf 𝓤 H (W .laws) 𝓣) asks-first.ended (asks-first.clauses 𝓤 H A mem run) asks-first-known
             (tt, tt, tt, (length yS, (length yR, (length yO, tt))), (vint w64 (length yS) ∷ [], (vint w64 (length yR) ∷ [], (vint w64 (length yO) ∷ [], tt)))) tt (id⊢ 𝓤 (emp 𝓤))
             (uint-makes 𝓤 H A W w64, (uint-makes 𝓤 H A W w64, (uint-makes 𝓤 H A W w64, tt))) ((refl, roomS .0), ((refl, roomR .0), ((refl, roomO .0), tt))) (id⊢ 𝓤 (emp 𝓤)) (uint-vals w8) (uint-tells w8) f (vint w8 f) refl (λ _ _. id⊢ 𝓤 _)
-            (and-then ! (value ! 33 refl) (and-then ! (value ! 31 refl) (and-then ! (value ! 29 refl) (no-more !)))) (λ f-is. land ! (from ! (stop !)) (init ! 36 refl (tt, record { fits = f-is .1 })) $
-            assigns ! (bin ! (value ! 36 refl) (lit ! tt) tt) (from ! (stop !)) (init ! 26 refl (tt, tt)) $
-            first ! $ branches ! (value ! 26 refl) (refuses f-is) (λ asked. skips ! $ exec ! (𝓣 .C) (𝓣 .Λ) E mir.t-7 (atRet E Post) $ answers asked))
+            (and-then ! (value ! 39 refl) (and-then ! (value ! 37 refl) (and-then ! (value ! 35 refl) (no-more !)))) (λ f-is. land ! (from ! (stop !)) (init ! 44 refl (tt, record { fits = f-is .1 })) $
+            assigns ! (bin ! (value ! 44 refl) (lit ! tt) tt) (from ! (stop !)) (init ! 32 refl (tt, tt)) $
+            first ! $ branches ! (value ! 32 refl) (refuses f-is) (λ asked. skips ! $ exec ! (𝓣 .C) (𝓣 .Λ) E mir.t-7 (atRet E Post) $ answers asked))
 
       walk : ent 𝓤 (onEntry 𝓤 H A entry.signature (κ₀, (κ₁, (κ₂, (κ₃, tt)))) (q₀, (q₁, (q₂, (q₃, tt)))) a at) (WpFn 𝓤 H (𝓣 .C) (𝓣 .Λ) code.function (sS ∷ sR ∷ xval c ∷ sliceVal (xQ .ptr) (length (xQ .now)) ∷ sO ∷ []) Post)
       walk =
           qed W ((‵ (flft κ₀ q₀) ⊛ ‵ (flft κ₁ q₁) ⊛ ‵ (flft κ₂ q₂) ⊛ ‵ (flft κ₃ q₃) ⊛ ‵ ftrue) ∷ ‵ (owns (MutSlice (named 0) κ₀ slot.the-row ∷ MutSlice (named 1) κ₁ register.the-row ∷ supplement.the-row ∷ ShrSlice (named 2) κ₂ u8 ∷ MutSlice (named 3) κ₃ u8 ∷ []) a at) ∷ []) ∵
           enter ! (𝓣 .C) (𝓣 .Λ) code.function (sS ∷ sR ∷ xval c ∷ sliceVal (xQ .ptr) (length (xQ .now)) ∷ sO ∷ []) _ $
-          alloc1 ! (λ l₀. alloc1 ! (λ l₁. alloc1 ! (λ l₂. alloc1 ! (λ l₃. alloc1 ! (λ l₄. alloc1 ! (λ l₅. alloc1 ! (λ l₆. alloc1 ! (λ l₇. alloc1 ! (λ l₈. alloc1 ! (λ l₉. alloc1 ! (λ l₁₀. alloc1 ! (λ l₁₁. alloc1 ! (λ l₁₂. alloc1 ! (λ l₁₃. alloc1 ! (λ l₁₄. alloc1 ! (λ l₁₅. alloc1 ! (λ l₁₆. alloc1 ! (λ l₁₇. alloc1 ! (λ l₁₈. alloc1 ! (λ l₁₉. alloc1 ! (λ l₂₀. alloc1 ! (λ l₂₁. alloc1 ! (λ l₂₂. alloc1 ! (λ l₂₃. alloc1 ! (λ l₂₄. alloc0 ! $ params1 ! $
-          pass1 ! (init ! 46 refl (tt, (tt, (record { fits = roomS .0 }, tt)))) $ pass1 ! (init ! 44 refl (tt, (tt, (record { fits = roomR .0 }, tt)))) $ pass1 ! (init ! 42 refl (LL.lawful supplement.the-type supplement′.the-laws 𝓤 H A W .typed c _ c-is .0)) $
-          pass1 ! (init ! 40 refl (tt, (tt, (record { fits = roomQ .0 }, tt)))) $ pass1 ! (init ! 38 refl (tt, (tt, (record { fits = roomO .0 }, tt)))) $ pass0 ! $ begins l₀ l₁ l₂ l₃ l₄ l₅ l₆ l₇ l₈ l₉ l₁₀ l₁₁ l₁₂ l₁₃ l₁₄ l₁₅ l₁₆ l₁₇ l₁₈ l₁₉ l₂₀ l₂₁ l₂₂ l₂₃ l₂₄)))))))))))))))))))))))))
+          alloc1 ! (λ l₀. alloc1 ! (λ l₁. alloc1 ! (λ l₂. alloc1 ! (λ l₃. alloc1 ! (λ l₄. alloc1 ! (λ l₅. alloc1 ! (λ l₆. alloc1 ! (λ l₇. alloc1 ! (λ l₈. alloc1 ! (λ l₉. alloc1 ! (λ l₁₀. alloc1 ! (λ l₁₁. alloc1 ! (λ l₁₂. alloc1 ! (λ l₁₃. alloc1 ! (λ l₁₄. alloc1 ! (λ l₁₅. alloc1 ! (λ l₁₆. alloc1 ! (λ l₁₇. alloc1 ! (λ l₁₈. alloc1 ! (λ l₁₉. alloc1 ! (λ l₂₀. alloc1 ! (λ l₂₁. alloc1 ! (λ l₂₂. alloc1 ! (λ l₂₃. alloc1 ! (λ l₂₄. alloc1 ! (λ l₂₅. alloc1 ! (λ l₂₆. alloc1 ! (λ l₂₇. alloc1 ! (λ l₂₈. alloc0 ! $ params1 ! $
+          pass1 ! (init ! 54 refl (tt, (tt, (record { fits = roomS .0 }, tt)))) $ pass1 ! (init ! 52 refl (tt, (tt, (record { fits = roomR .0 }, tt)))) $ pass1 ! (init ! 50 refl (LL.lawful supplement.the-type supplement′.the-laws 𝓤 H A W .typed c _ c-is .0)) $
+          pass1 ! (init ! 48 refl (tt, (tt, (record { fits = roomQ .0 }, tt)))) $ pass1 ! (init ! 46 refl (tt, (tt, (record { fits = roomO .0 }, tt)))) $ pass0 ! $ begins l₀ l₁ l₂ l₃ l₄ l₅ l₆ l₇ l₈ l₉ l₁₀ l₁₁ l₁₂ l₁₃ l₁₄ l₁₅ l₁₆ l₁₇ l₁₈ l₁₉ l₂₀ l₂₁ l₂₂ l₂₃ l₂₄ l₂₅ l₂₆ l₂₇ l₂₈)))))))))))))))))))))))))))))
 
     -- the walk at every call
     walks : Walks 𝓤 H A entry.ended stayed (WpFn 𝓤 H (𝓣 .C) (𝓣 .Λ) code.function) (entry.clauses 𝓤 H A mem run)
@@ -409,7 +458,7 @@ diminurel-handle-spec 𝓤 H 𝓜 𝓖 𝓡 =
     -- the functions that it calls meet their contracts
     (cited 𝓤 H (AsksFirst 𝓤 H (𝓖 .A) (𝓜 .mem) (𝓡 .run)) 𝓜 𝓡 code.env asks-first-def.name asks-first-def.routine code.calls-decide-counts·first-refusal (asks-first-thm.met 𝓤 H 𝓜 𝓖 𝓡))
     (cited 𝓤 H (LoadSlots 𝓤 H (𝓖 .A) (𝓜 .mem) (𝓡 .run)) 𝓜 𝓡 code.env load-slots-def.name load-slots-def.routine code.calls-row-lending·load-slots (load-slots-thm.met 𝓤 H 𝓜 𝓖 𝓡))
-    (cited 𝓤 H (LoadRegisters 𝓤 H (𝓖 .A) (𝓜 .mem) (𝓡 .run)) 𝓜 𝓡 code.env load-registers-def.name load-registers-def.routine code.calls-row-lending·load-registers (load-registers-thm.met 𝓤 H 𝓜 𝓖 𝓡))
-    (cited 𝓤 H (Answers 𝓤 H (𝓖 .A) (𝓜 .mem) (𝓡 .run)) 𝓜 𝓡 code.env answer-def.name answer-def.routine code.calls-entry-numbers·answer-rows (answer-thm.met 𝓤 H 𝓜 𝓖 𝓡))
+    (cited 𝓤 H (LoadCards 𝓤 H (𝓖 .A) (𝓜 .mem) (𝓡 .run)) 𝓜 𝓡 code.env load-cards-def.name load-cards-def.routine code.calls-row-lending·load-cards (load-cards-thm.met 𝓤 H 𝓜 𝓖 𝓡))
+    (cited 𝓤 H (Answers 𝓤 H (𝓖 .A) (𝓜 .mem) (𝓡 .run)) 𝓜 𝓡 code.env answer-def.name answer-def.routine code.calls-entry-numbers·answer (answer-thm.met 𝓤 H 𝓜 𝓖 𝓡))
     (cited 𝓤 H (StoreSlots 𝓤 H (𝓖 .A) (𝓜 .mem) (𝓡 .run)) 𝓜 𝓡 code.env store-slots-def.name store-slots-def.routine code.calls-row-lending·store-slots (store-slots-thm.met 𝓤 H 𝓜 𝓖 𝓡))
-    (cited 𝓤 H (StoreRegisters 𝓤 H (𝓖 .A) (𝓜 .mem) (𝓡 .run)) 𝓜 𝓡 code.env store-registers-def.name store-registers-def.routine code.calls-row-lending·store-registers (store-registers-thm.met 𝓤 H 𝓜 𝓖 𝓡)))
+    (cited 𝓤 H (StoreCards 𝓤 H (𝓖 .A) (𝓜 .mem) (𝓡 .run)) 𝓜 𝓡 code.env store-cards-def.name store-cards-def.routine code.calls-row-lending·store-cards (store-cards-thm.met 𝓤 H 𝓜 𝓖 𝓡)))

@@ -1,27 +1,32 @@
--- `diminurel::diminurel_usable` meets its contract: a walk of its code, by hand. The two slices are passed on to the functions that load them, and what is said of the tables is said of the lent rows. Assumes nothing.
+-- `diminurel::diminurel_usable` meets its contract: a walk of its code, by hand. The two slices are passed on to the functions that load them, the cards, which lie in a local, are lent to the function that answers, and what is said of the tables is said of the lent rows. Assumes nothing.
 -- In a step the number of `value`, `look`, `init`, `store` or `leave` is a place in the list of what there is (`Start`): a local takes two, the last local comes first, and what stands before the locals is listed where it changes.
-use Rattle.hand_proofs.proofs.Prelude.{refl, ap, ℕ, _<_, _^_, [], _∷_, List, length, URA, Ty, named, imm, w8, w64, tyInt, tyRef, Val, vint, SProp, ent, emp, via, fst∗, id⊢, Lft, Share, ftrue, flft, Memory, Routine, Heap, Env, WpFn, Tables, Atoms, Fun, givenOf, tables, tablesOf, Given, Item, Sq, runs, atRet, ‵, _⊛_, _$_, _∵_, !, qed, move, drop, split, join, fsplit, fjoin, suffices, frame, done, look, init, stop, from, and-then, no-more, land, returns, enter, alloc1, alloc0, params1, pass1, pass0, free0, fmOf, WpFn-mono, owns, Is, pointee, uint-makes, uint-vals, uint-tells, u8, usize, RefT, sliceTy, slice-vals, sliceVal, ShrSlice, Room, shr-slice-tells, owned, nothing, Vals, onEntry, Meets, tripleOf, Contract, Triple, entered, cited, says, Stays, stay-dropped, walkOf, goes-dropped, Walks, ends-at, walked, walk-meets, yes, Param, shrSliceOf, plain, assigns, of-opd, load, look-in, sub, whole, fld}
+use Rattle.hand_proofs.proofs.Prelude.{refl, ap, ℕ, _<_, _^_, [], _∷_, List, length, URA, Ty, named, imm, w8, w64, tyInt, tyRef, Val, vint, SProp, ent, emp, via, fst∗, id⊢, Lft, Share, ftrue, flft, Memory, Routine, Heap, Env, WpFn, Tables, Atoms, Fun, givenOf, tables, tablesOf, Given, Item, Sq, runs, atRet, ‵, _⊛_, _$_, _∵_, !, qed, move, drop, split, join, fsplit, fjoin, suffices, frame, done, look, init, stop, from, and-then, no-more, land, returns, enter, alloc1, alloc0, params1, pass1, pass0, free0, fmOf, WpFn-mono, owns, Is, pointee, uint-makes, uint-vals, uint-tells, u8, usize, RefT, sliceTy, slice-vals, sliceVal, ShrSlice, Room, shr-slice-tells, owned, nothing, Vals, onEntry, Meets, tripleOf, Contract, Triple, entered, cited, says, Stays, stay-dropped, walkOf, goes-dropped, Walks, ends-at, walked, walk-meets, yes, Param, shrSliceOf, plain, assigns, of-opd, load, look-in, sub, whole, fld, _≡_, sym, _∙_, fullShare, erased, fat, fact, factI, raw, ⋆, use0, use1, group, heard, GName, rewrite, addr, agg, lit, lit<}
+use denote.Struct.Laws as LL
 use mathlib.Core.List.{_++_}
+use Rattle.row_types.specs.declared.Counts.{Counts}
 use Rattle.row_types.specs.declared.SlotRow.{SlotRow}
 use Rattle.row_types.specs.declared.RegisterRow.{RegisterRow}
+use Rattle.row_types.proofs.Counts as counts
+use Rattle.row_types.proofs.Counts.Laws as counts′
 use Rattle.row_types.proofs.SlotRow as slot
 use Rattle.row_types.proofs.RegisterRow as register
-use Rattle.row_lending.specs.Tables.{slotTable, registerTable}
-use Rattle.row_lending.proofs.TableTypes.{tableTy, tableVal, table, table-tells, table-makes, table-typed}
-use Rattle.row_lending.proofs.LentTables.{slot-row, register-row}
-use Rattle.hand_proofs.proofs.Walk.{unset, holds, value, calls-plain, leave}
+use Rattle.row_lending.specs.Tables.{slotTable, cardTable}
+use Rattle.row_lending.proofs.TableTypes.{tableTy, tableVal, table, Filled, table-tells, table-makes, table-typed, filled-long}
+use Rattle.row_lending.proofs.LentTables.{slot-cell, card-cell}
+use Rattle.hand_proofs.proofs.Walk.{unset, holds, value, calls-on, leave}
 use Rattle.row_lending.proofs.Lends.{calls-with}
+use Rattle.row_lending.proofs.Loan.{shares-table, shared-back}
 use Rattle.row_lending.proofs.load_slots as load-slots
 use Rattle.row_lending.proofs.load_slots.Symbol as load-slots-def
 use Rattle.row_lending.proofs.load_slots.Met as load-slots-thm
-use Rattle.row_lending.proofs.load_registers as load-registers
-use Rattle.row_lending.proofs.load_registers.Symbol as load-registers-def
-use Rattle.row_lending.proofs.load_registers.Met as load-registers-thm
+use Rattle.row_lending.proofs.load_cards as load-cards
+use Rattle.row_lending.proofs.load_cards.Symbol as load-cards-def
+use Rattle.row_lending.proofs.load_cards.Met as load-cards-thm
 use Rattle.engine.specs.Usable.{isUsable}
 use Rattle.entry_numbers.specs.Numbers.{yesByte}
-use Rattle.entry_numbers.proofs.usable_rows as usable
-use Rattle.entry_numbers.proofs.usable_rows.Symbol as usable-def
-use Rattle.entry_numbers.proofs.usable_rows.Met as usable-thm
+use Rattle.entry_numbers.proofs.usable as usable
+use Rattle.entry_numbers.proofs.usable.Symbol as usable-def
+use Rattle.entry_numbers.proofs.usable.Met as usable-thm
 use Rattle.diminurel.proofs.LentLaws.{loaded, same-usable}
 use Rattle.diminurel.proofs.diminurel_usable as entry
 use Rattle.diminurel.proofs.diminurel_usable.Key.{name}
@@ -46,13 +51,13 @@ module _ {M : Type 1} (𝓤 : URA M) (H : Heap 𝓤) (A : Atoms 𝓤) (mem : Mem
   abbrev LoadSlots : Contract 𝓤
   LoadSlots = tripleOf 𝓤 H A load-slots.signature (load-slots.spec 𝓤 H A mem run)
 
-  abbrev LoadRegisters : Contract 𝓤
-  LoadRegisters = tripleOf 𝓤 H A load-registers.signature (load-registers.spec 𝓤 H A mem run)
+  abbrev LoadCards : Contract 𝓤
+  LoadCards = tripleOf 𝓤 H A load-cards.signature (load-cards.spec 𝓤 H A mem run)
 
   abbrev Usable : Contract 𝓤
   Usable = tripleOf 𝓤 H A usable.signature (usable.spec 𝓤 H A mem run)
 
-  module _ (W : Given 𝓤 H A) (𝓣 : Tables 𝓤 H) (load-slots-known : Triple 𝓤 (𝓣 .C load-slots-def.name) LoadSlots) (load-registers-known : Triple 𝓤 (𝓣 .C load-registers-def.name) LoadRegisters) (usable-known : Triple 𝓤 (𝓣 .C usable-def.name) Usable) where
+  module _ (W : Given 𝓤 H A) (𝓣 : Tables 𝓤 H) (load-slots-known : Triple 𝓤 (𝓣 .C load-slots-def.name) LoadSlots) (load-cards-known : Triple 𝓤 (𝓣 .C load-cards-def.name) LoadCards) (usable-known : Triple 𝓤 (𝓣 .C usable-def.name) Usable) where
     -- ---- a call: the slots xS and the registers xR, lent for κ₀ and κ₁, and a register's number n
     module _ (κ₀ κ₁ : Lft) (q₀ q₁ : Share) (xS : RefT (List SlotRow)) (xR : RefT (List RegisterRow)) (n : ℕ) (roomS : Room slot.the-row (length (xS .now))) (roomR : Room register.the-row (length (xR .now))) (n-fits : n < 2 ^ 64) where
       abbrev a : RefT (List SlotRow) × (RefT (List RegisterRow) × (ℕ × Unit {0}))
@@ -64,65 +69,109 @@ module _ {M : Type 1} (𝓤 : URA M) (H : Heap 𝓤) (A : Atoms 𝓤) (mem : Mem
       abbrev Post : Val → SProp 𝓤
       Post = walkOf 𝓤 H A entry.ended stayed (entry.clauses 𝓤 H A mem run) .post (((κ₀, (κ₁, tt)), (q₀, (q₁, tt)), tt, a, at), tt)
 
-      -- the tables, and the answer
+      -- the tables, the counts, and the answer
       abbrev s : List SlotRow
       s = slotTable (xS .now)
 
-      abbrev r : List RegisterRow
-      r = registerTable (xR .now)
+      abbrev t : List (List ℕ)
+      t = cardTable (xR .now)
+
+      abbrev m : Counts
+      m = record { slots = length (xS .now); registers = length (xR .now) }
+
+      abbrev mval : Val
+      mval = LL.val counts.the-type counts′.the-laws m
+
+      m-is : Is counts.the-row m (mval ∷ [])
+      m-is = LL.owes counts.the-type counts′.the-laws m ((refl, roomS .0), ((refl, roomR .0), tt))
 
       abbrev v : ℕ
       v = yesByte (isUsable (loaded (xS .now) (xR .now)) n)
 
-      module _ (l₀ l₁ l₂ l₃ l₄ l₅ l₆ l₇ : ℕ) where
+      -- what is passed to the function that answers, the cards at (l, 0) lent for ν, and that it is had
+      module _ (l ν : ℕ) (γ : GName) where
+        abbrev xC : RefT (List (List ℕ))
+        xC = record { ptr = (l, 0); name = γ; now = t }
+
+        abbrev to-usable : Usable .Ghost
+        to-usable = (((ν ∷ [], tt), (fullShare, tt), tt, (s, (m, (xC, (n, tt)))), (tableVal slot-cell s ∷ [], (mval ∷ [], (slice-vals xC, (vint w64 n ∷ [], tt))))), tt)
+
+        abbrev Handed : List (Item 𝓤)
+        Handed = ‵ (flft (ν ∷ []) fullShare) ∷ ‵ (ShrSlice (named 0) (ν ∷ []) (card-cell .type) .own xC (slice-vals xC)) ∷ []
+
+        asks : Filled slot-cell 8 s → Filled card-cell 32 t → ent 𝓤 (⋆ 𝓤 H A Handed) (Usable .pre to-usable)
+        asks s-is t-is =
+            qed W Handed ∵ use0 W (raw (fact 𝓤 (length t ≡ 32))) (factI 𝓤 _ (emp 𝓤) (filled-long card-cell 32 t t-is)) $
+            -- [what is asked; ν; the cards]: the token, and what the parameters own
+            nothing ! $ move ! (2 ∷ 0 ∷ []) $ join ! $
+            nothing ! $ owned ! usize (Is usize) (uint-makes 𝓤 H A W w64) n _ (refl, n-fits) $ fjoin ! $ move ! (3 ∷ 0 ∷ []) $ fjoin ! $
+            owned ! counts.the-row (Is counts.the-row) (LL.makes counts.the-type counts′.the-plain 𝓤 H A) m _ m-is $ fjoin ! $ owned ! (table slot-cell 8) (Is (table slot-cell 8)) (table-makes slot-cell 8 𝓤 H A W) s _ s-is $ fjoin ! $
+            move ! (1 ∷ 0 ∷ []) $ join ! $ join ! $ done !
+
+      module _ (l₀ l₁ l₂ l₃ l₄ l₅ l₆ l₇ l₈ l₉ l₁₀ l₁₁ : ℕ) where
         abbrev RefS : Ty
         RefS = sliceTy (tyRef (named 0) imm (pointee (slot.the-row .written)))
 
         abbrev RefR : Ty
         RefR = sliceTy (tyRef (named 1) imm (pointee (register.the-row .written)))
 
+        abbrev Card : Ty
+        Card = pointee (card-cell .type .written)
+
+        abbrev Cards : Ty
+        Cards = tableTy card-cell 32
+
         abbrev E : Env 𝓤 H
-        E = (tyInt w8, l₀) ∷ (RefS, l₁) ∷ (RefR, l₂) ∷ (tyInt w64, l₃) ∷ (tableTy slot-row 8, l₄) ∷ (tyInt w64, l₅) ∷ (tableTy register-row 32, l₆) ∷ (tyInt w64, l₇) ∷ []
+        E = (tyInt w8, l₀) ∷ (RefS, l₁) ∷ (RefR, l₂) ∷ (tyInt w64, l₃) ∷ (Cards, l₄) ∷ (Cards, l₅) ∷ (tableTy slot-cell 8, l₆) ∷ (tyInt w64, l₇) ∷ (tyInt w64, l₈) ∷ (counts′.mir, l₉) ∷ (tyRef erased imm Cards, l₁₀) ∷ (sliceTy (tyRef erased imm Card), l₁₁) ∷ []
 
         -- what there is once the parameters are passed: the locals, from the last, the tokens, and what the parameters own
         abbrev Start : List (Item 𝓤)
-        Start = unset (tyInt w64) l₇ ++ unset (tableTy register-row 32) l₆ ++ unset (tyInt w64) l₅ ++ unset (tableTy slot-row 8) l₄ ++ holds (tyInt w64) l₃ (vint w64 n)
+        Start = unset (sliceTy (tyRef erased imm Card)) l₁₁ ++ unset (tyRef erased imm Cards) l₁₀ ++ unset counts′.mir l₉ ++ unset (tyInt w64) l₈ ++ unset (tyInt w64) l₇ ++ unset (tableTy slot-cell 8) l₆ ++ unset Cards l₅ ++ unset Cards l₄ ++ holds (tyInt w64) l₃ (vint w64 n)
             ++ holds RefR l₂ (sliceVal (xR .ptr) (length (xR .now))) ++ holds RefS l₁ (sliceVal (xS .ptr) (length (xS .now))) ++ unset (tyInt w8) l₀
             ++ (‵ (flft κ₀ q₀) ⊛ ‵ (flft κ₁ q₁) ⊛ ‵ ftrue) ∷ ‵ (owns (ShrSlice (named 0) κ₀ slot.the-row ∷ ShrSlice (named 1) κ₁ register.the-row ∷ usize ∷ []) a at) ∷ []
 
         begins : Sq W Start (runs (𝓣 .C) (𝓣 .Λ) E mir.t-1 (atRet E Post))
         begins =
             -- the tokens and what the parameters own are taken apart
-            move ! (16 ∷ 17 ∷ []) $ split ! $ move ! (1 ∷ []) $ split ! $ move ! (1 ∷ []) $ drop ! $ move ! (2 ∷ []) $ fsplit ! $ move ! (1 ∷ []) $ fsplit ! $ move ! (1 ∷ []) $ drop ! $
-            -- [the registers; the slots; κ₁; κ₀; _7; …]: the slots are loaded
-            move ! (3 ∷ 1 ∷ 0 ∷ 2 ∷ []) $
-            calls-with ! (fmOf 𝓤 H (W .laws) 𝓣) slot.the-row (table slot-row 8) (load-slots.clauses 𝓤 H A mem run) load-slots-known κ₀ q₀ xS tt (id⊢ 𝓤 (emp 𝓤)) (λ rs. tableVal slot-row rs ∷ []) (table-tells slot-row 8) s (tableVal slot-row s) refl (λ _ _. id⊢ 𝓤 _)
-            (λ _. and-then ! (value ! 15 refl) (no-more !)) (λ s-is. land ! (from ! (stop !)) (init ! 9 refl (table-typed slot-row 8 𝓤 H A W s _ s-is)) $
-            assigns ! (of-opd ! (load ! (from ! (fld ! refl (stop !))) (look-in ! 15 (sub ! 1 refl (whole !))))) (from ! (stop !)) (init ! 7 refl (tt, record { fits = roomS .0 })) $
-            -- [κ₀; the registers; κ₁; _7; …]: the registers are loaded
+            move ! (24 ∷ 25 ∷ []) $ split ! $ move ! (1 ∷ []) $ split ! $ move ! (1 ∷ []) $ drop ! $ move ! (2 ∷ []) $ fsplit ! $ move ! (1 ∷ []) $ fsplit ! $ move ! (1 ∷ []) $ drop ! $
+            -- [the registers; the slots; κ₁; κ₀; _11; …]: the cards are loaded
+            move ! (2 ∷ 0 ∷ []) $
+            calls-with ! (fmOf 𝓤 H (W .laws) 𝓣) register.the-row (table card-cell 32) (load-cards.clauses 𝓤 H A mem run) load-cards-known κ₁ q₁ xR tt (id⊢ 𝓤 (emp 𝓤)) (λ cs. tableVal card-cell cs ∷ []) (table-tells card-cell 32) t (tableVal card-cell t) refl (λ _ _. id⊢ 𝓤 _)
+            (λ _. and-then ! (value ! 21 refl) (no-more !)) (λ t-is. land ! (from ! (stop !)) (init ! 15 refl (table-typed card-cell 32 𝓤 H A W t _ t-is)) $
+            assigns ! (of-opd ! (value ! 15 refl)) (from ! (stop !)) (init ! 17 refl (table-typed card-cell 32 𝓤 H A W t _ t-is)) $
+            -- [κ₁; the slots; κ₀; _11; …]: the slots are loaded
             move ! (2 ∷ 1 ∷ []) $
-            calls-with ! (fmOf 𝓤 H (W .laws) 𝓣) register.the-row (table register-row 32) (load-registers.clauses 𝓤 H A mem run) load-registers-known κ₁ q₁ xR tt (id⊢ 𝓤 (emp 𝓤)) (λ rs. tableVal register-row rs ∷ []) (table-tells register-row 32) r (tableVal register-row r) refl (λ _ _. id⊢ 𝓤 _)
-            (λ _. and-then ! (value ! 12 refl) (no-more !)) (λ r-is. land ! (from ! (stop !)) (init ! 4 refl (table-typed register-row 32 𝓤 H A W r _ r-is)) $
-            -- [κ₁; κ₀; _7; …]: the tables are asked
-            assigns ! (of-opd ! (load ! (from ! (fld ! refl (stop !))) (look-in ! 12 (sub ! 1 refl (whole !))))) (from ! (stop !)) (init ! 2 refl (tt, record { fits = roomR .0 })) $
-            calls-plain ! (fmOf 𝓤 H (W .laws) 𝓣) usable.ended (usable.clauses 𝓤 H A mem run) usable-known
-            (tt, tt, tt, (s, (length (xS .now), (r, (length (xR .now), (n, tt))))), (tableVal slot-row s ∷ [], (vint w64 (length (xS .now)) ∷ [], (tableVal register-row r ∷ [], (vint w64 (length (xR .now)) ∷ [], (vint w64 n ∷ [], tt)))))) tt (id⊢ 𝓤 (emp 𝓤))
-            (table-makes slot-row 8 𝓤 H A W, (uint-makes 𝓤 H A W w64, (table-makes register-row 32 𝓤 H A W, (uint-makes 𝓤 H A W w64, (uint-makes 𝓤 H A W w64, tt)))))
-            (s-is, ((refl, roomS .0), (r-is, ((refl, roomR .0), ((refl, n-fits), tt))))) (id⊢ 𝓤 (emp 𝓤)) (uint-vals w8) (uint-tells w8) v (vint w8 v) refl (λ _ _. id⊢ 𝓤 _)
-            (and-then ! (value ! 9 refl) (and-then ! (value ! 7 refl) (and-then ! (value ! 5 refl) (and-then ! (value ! 3 refl) (and-then ! (value ! 11 refl) (no-more !)))))) (λ v-is. land ! (from ! (stop !)) (init ! 16 refl (tt, record { fits = v-is .1 })) $
-            -- the answer is returned, and the locals die
-            returns ! (look ! 16 refl) $ leave ! 16 refl refl $ leave ! 14 refl refl $ leave ! 12 refl refl $ leave ! 10 refl refl $ leave ! 8 refl refl $ leave ! 6 refl refl $ leave ! 4 refl refl $ leave ! 2 refl refl $ free0 ! $
+            calls-with ! (fmOf 𝓤 H (W .laws) 𝓣) slot.the-row (table slot-cell 8) (load-slots.clauses 𝓤 H A mem run) load-slots-known κ₀ q₀ xS tt (id⊢ 𝓤 (emp 𝓤)) (λ rs. tableVal slot-cell rs ∷ []) (table-tells slot-cell 8) s (tableVal slot-cell s) refl (λ _ _. id⊢ 𝓤 _)
+            (λ _. and-then ! (value ! 22 refl) (no-more !)) (λ s-is. land ! (from ! (stop !)) (init ! 12 refl (table-typed slot-cell 8 𝓤 H A W s _ s-is)) $
+            -- [κ₀; κ₁; _11; …]: the counts, where the cards lie, and how many
+            assigns ! (of-opd ! (load ! (from ! (fld ! refl (stop !))) (look-in ! 22 (sub ! 1 refl (whole !))))) (from ! (stop !)) (init ! 10 refl (tt, record { fits = roomS .0 })) $
+            assigns ! (of-opd ! (load ! (from ! (fld ! refl (stop !))) (look-in ! 20 (sub ! 1 refl (whole !))))) (from ! (stop !)) (init ! 8 refl (tt, record { fits = roomR .0 })) $
+            assigns ! (agg ! (and-then ! (value ! 10 refl) (and-then ! (value ! 8 refl) (no-more !)))) (from ! (stop !)) (init ! 6 refl (LL.lawful counts.the-type counts′.the-laws 𝓤 H A W .typed m _ m-is .0)) $
+            assigns ! (addr ! (from ! (stop !))) (from ! (stop !)) (init ! 4 refl (tt, tt)) $
+            assigns ! (agg ! (and-then ! (value ! 4 refl) (and-then ! (lit ! tt) (no-more !)))) (from ! (stop !)) (init ! 2 refl (tt, (tt, (record { fits = lit< tt }, tt)))) $
+            rewrite ! 2 (λ (k : ℕ). ‵ (fat fullShare (sliceTy (tyRef erased imm Card)) l₁₁ 0 (sliceVal (l₄, 0) k))) (sym (filled-long card-cell 32 t t-is)) refl $
+            -- the cards are lent, and the tables are asked
+            move ! (16 ∷ 17 ∷ []) $ shares-table ! tt card-cell tt 32 (lit< tt, lit< tt) t t-is l₄ (λ ν γ.
+            -- [ν; the cards; what the lender keeps; _4; κ₀; κ₁; _11; …]
+            group ! 2 $ calls-on ! (fmOf 𝓤 H (W .laws) 𝓣) usable.ended (usable.clauses 𝓤 H A mem run) usable-known (to-usable l₄ ν γ .0) tt (asks l₄ ν γ s-is t-is) (vint w8) (uint-tells w8)
+            (and-then ! (value ! 15 refl) (and-then ! (value ! 9 refl) (and-then ! (value ! 5 refl) (and-then ! (value ! 19 refl) (no-more !))))) (λ r ws is.
+            -- [the token; what is said of the last values; the `ensures`; what the lender keeps; _4; κ₀; κ₁; _11; …]: what it ensures is learned, and the cards are back
+            move ! (2 ∷ []) $ use1 W (raw (fact 𝓤 (r ≡ v))) (id⊢ 𝓤 _) $ heard ! (r ≡ v) (λ e.
+            use1 W (‵ (flft (ν ∷ []) fullShare) ⊛ ‵ ftrue) (id⊢ 𝓤 _) $ split ! $ move ! (0 ∷ 3 ∷ []) $ shared-back ! tt card-cell 32 t t-is l₄ ν $ move ! (1 ∷ 2 ∷ []) $ drop ! $ drop ! $
+            -- [_4; …; κ₀; κ₁; _11; …]: the answer is returned, and the locals die
+            land ! (from ! (stop !)) (init ! 24 refl (tt, record { fits = is .1 })) $
+            returns ! (look ! 24 refl) $ leave ! 24 refl refl $ leave ! 22 refl refl $ leave ! 20 refl refl $ leave ! 18 refl refl $ leave ! 0 refl refl $ leave ! 14 refl refl $ leave ! 12 refl refl $ leave ! 10 refl refl $ leave ! 8 refl refl $ leave ! 6 refl refl $ leave ! 4 refl refl $ leave ! 2 refl refl $ free0 ! $
             -- it is what the contract says
-            suffices ! _ (ends-at 𝓤 H A entry.ended stayed (entry.clauses 𝓤 H A mem run) W (((κ₀, (κ₁, tt)), (q₀, (q₁, tt)), tt, a, at), tt) _ v (tt, (tt, (tt, tt))) (tt, (tt, (tt, tt)))) $ says ! (ap yesByte (same-usable (xS .now) (xR .now) n)) $
-            nothing ! $ move ! (1 ∷ 0 ∷ []) $ join ! $ move ! (1 ∷ 0 ∷ []) $ join ! $ frame ! $
-            nothing ! $ nothing ! $ fjoin ! $ nothing ! $ fjoin ! $ nothing ! $ fjoin ! $ frame ! $ owned ! u8 (Is u8) (uint-makes 𝓤 H A W w8) v _ v-is $ done !)))
+            suffices ! _ (ends-at 𝓤 H A entry.ended stayed (entry.clauses 𝓤 H A mem run) W (((κ₀, (κ₁, tt)), (q₀, (q₁, tt)), tt, a, at), tt) _ r (tt, (tt, (tt, tt))) (tt, (tt, (tt, tt)))) $ says ! (e ∙ ap yesByte (same-usable (xS .now) (xR .now) n)) $
+            nothing ! $ move ! (2 ∷ 0 ∷ []) $ join ! $ move ! (1 ∷ 0 ∷ []) $ join ! $ frame ! $
+            nothing ! $ nothing ! $ fjoin ! $ nothing ! $ fjoin ! $ nothing ! $ fjoin ! $ frame ! $ owned ! u8 (Is u8) (uint-makes 𝓤 H A W w8) r _ is $ done !)))))
 
       walk : ent 𝓤 (onEntry 𝓤 H A entry.signature (κ₀, (κ₁, tt)) (q₀, (q₁, tt)) a at) (WpFn 𝓤 H (𝓣 .C) (𝓣 .Λ) code.function (sliceVal (xS .ptr) (length (xS .now)) ∷ sliceVal (xR .ptr) (length (xR .now)) ∷ vint w64 n ∷ []) Post)
       walk =
           qed W ((‵ (flft κ₀ q₀) ⊛ ‵ (flft κ₁ q₁) ⊛ ‵ ftrue) ∷ ‵ (owns (ShrSlice (named 0) κ₀ slot.the-row ∷ ShrSlice (named 1) κ₁ register.the-row ∷ usize ∷ []) a at) ∷ []) ∵
           enter ! (𝓣 .C) (𝓣 .Λ) code.function (sliceVal (xS .ptr) (length (xS .now)) ∷ sliceVal (xR .ptr) (length (xR .now)) ∷ vint w64 n ∷ []) _ $
-          alloc1 ! (λ l₀. alloc1 ! (λ l₁. alloc1 ! (λ l₂. alloc1 ! (λ l₃. alloc1 ! (λ l₄. alloc1 ! (λ l₅. alloc1 ! (λ l₆. alloc1 ! (λ l₇. alloc0 ! $ params1 ! $
-          pass1 ! (init ! 12 refl (tt, (tt, (record { fits = roomS .0 }, tt)))) $ pass1 ! (init ! 10 refl (tt, (tt, (record { fits = roomR .0 }, tt)))) $ pass1 ! (init ! 8 refl (tt, record { fits = n-fits })) $ pass0 ! $ begins l₀ l₁ l₂ l₃ l₄ l₅ l₆ l₇))))))))
+          alloc1 ! (λ l₀. alloc1 ! (λ l₁. alloc1 ! (λ l₂. alloc1 ! (λ l₃. alloc1 ! (λ l₄. alloc1 ! (λ l₅. alloc1 ! (λ l₆. alloc1 ! (λ l₇. alloc1 ! (λ l₈. alloc1 ! (λ l₉. alloc1 ! (λ l₁₀. alloc1 ! (λ l₁₁. alloc0 ! $ params1 ! $
+          pass1 ! (init ! 20 refl (tt, (tt, (record { fits = roomS .0 }, tt)))) $ pass1 ! (init ! 18 refl (tt, (tt, (record { fits = roomR .0 }, tt)))) $ pass1 ! (init ! 16 refl (tt, record { fits = n-fits })) $ pass0 ! $ begins l₀ l₁ l₂ l₃ l₄ l₅ l₆ l₇ l₈ l₉ l₁₀ l₁₁))))))))))))
 
     -- the walk at every call
     walks : Walks 𝓤 H A entry.ended stayed (WpFn 𝓤 H (𝓣 .C) (𝓣 .Λ) code.function) (entry.clauses 𝓤 H A mem run)
@@ -141,5 +190,5 @@ diminurel-usable-spec 𝓤 H 𝓜 𝓖 𝓡 =
     (tables 𝓤 H 𝓜 𝓡 code.env .C) (tables 𝓤 H 𝓜 𝓡 code.env .Λ) name code.function (code.unfolded 𝓤 H 𝓜 𝓡)
     (meets 𝓤 H (𝓖 .A) (𝓜 .mem) (𝓡 .run) (givenOf 𝓤 H 𝓜 𝓖) (tablesOf 𝓤 H 𝓜 (tables 𝓤 H 𝓜 𝓡 code.env))
     (cited 𝓤 H (LoadSlots 𝓤 H (𝓖 .A) (𝓜 .mem) (𝓡 .run)) 𝓜 𝓡 code.env load-slots-def.name load-slots-def.routine code.calls-row-lending·load-slots (load-slots-thm.met 𝓤 H 𝓜 𝓖 𝓡))
-    (cited 𝓤 H (LoadRegisters 𝓤 H (𝓖 .A) (𝓜 .mem) (𝓡 .run)) 𝓜 𝓡 code.env load-registers-def.name load-registers-def.routine code.calls-row-lending·load-registers (load-registers-thm.met 𝓤 H 𝓜 𝓖 𝓡))
-    (cited 𝓤 H (Usable 𝓤 H (𝓖 .A) (𝓜 .mem) (𝓡 .run)) 𝓜 𝓡 code.env usable-def.name usable-def.routine code.calls-entry-numbers·usable-rows (usable-thm.met 𝓤 H 𝓜 𝓖 𝓡)))
+    (cited 𝓤 H (LoadCards 𝓤 H (𝓖 .A) (𝓜 .mem) (𝓡 .run)) 𝓜 𝓡 code.env load-cards-def.name load-cards-def.routine code.calls-row-lending·load-cards (load-cards-thm.met 𝓤 H 𝓜 𝓖 𝓡))
+    (cited 𝓤 H (Usable 𝓤 H (𝓖 .A) (𝓜 .mem) (𝓡 .run)) 𝓜 𝓡 code.env usable-def.name usable-def.routine code.calls-entry-numbers·usable (usable-thm.met 𝓤 H 𝓜 𝓖 𝓡)))
