@@ -44,6 +44,6 @@ pub fn put_long(dst: &mut [u8], at: usize, number: u64) -> usize
     ensures { λ r. ⌜ Writes dst at (longBytes number ++ text " ") r ⌝ }
     ensures short { λ r. ⌜ r ≤ at + 21 ⌝ }
 {
-    let end = text_decimal_writer::put_long(dst, at, number);
-    byte_strings::put_byte(dst, end, b' ')
+    let after = text_decimal_writer::put_long(dst, at, number);
+    byte_strings::put_byte(dst, after, b' ')
 }

@@ -6,19 +6,19 @@ ghost use Rattle.console_words.specs.Words.{word, rest, hasRest};
 pub fn word<'a>(line: &'a [u8]) -> &'a [u8]
     ensures { λ r. ⌜ now r ≡ word (now (line .entry)) ⌝ }
 {
-    let n = byte_pieces::piece_end(line, 0, b' ');
-    &line[0..n]
+    let end = byte_pieces::piece_end(line, 0, b' ');
+    &line[0..end]
 }
 
 // What stands after the first space; nothing where there is none.
 pub fn rest<'a>(line: &'a [u8]) -> &'a [u8]
     ensures { λ r. ⌜ now r ≡ rest (now (line .entry)) ⌝ }
 {
-    let n = byte_pieces::piece_end(line, 0, b' ');
-    if line.len() <= n {
+    let space = byte_pieces::piece_end(line, 0, b' ');
+    if line.len() <= space {
         return &line[0..0];
     }
-    &line[n + 1..]
+    &line[space + 1..]
 }
 
 // Whether there is a space.

@@ -7,7 +7,7 @@ ghost use Rattle.row_index.specs.Found.{numberOf};
 
 // Whether a kept name is the name. Names mostly differ in their last byte, so that is compared before the name's
 // end is looked for.
-pub fn is_called(kept: &[u8], name: &[u8]) -> bool
+fn is_called(kept: &[u8], name: &[u8]) -> bool
     ensures { λ b. ⌜ b ≡ isCalled (now (name .entry)) (now (kept .entry)) ⌝ }
 {
     if name.len() == 0 {
