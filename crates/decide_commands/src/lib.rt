@@ -34,8 +34,8 @@ pub fn decide_command(
 {
     match command {
         Command::RS => without_parts(decide_slots::decide_reset(payload)),
-        Command::KC => decide_sessions::decide_start(slots, counts.slots, supplement, payload),
-        Command::KR => decide_sessions::decide_open(slots, counts.slots, supplement, payload),
+        Command::KC => decide_starts::decide_start(slots, counts.slots, supplement, payload),
+        Command::KR => decide_opens::decide_open(slots, counts.slots, supplement, payload),
         Command::KL => decide_loads::decide_load(slots, counts, keys, supplement, payload),
         Command::KF => without_parts(decide_slots::decide_close(slots, counts.slots, payload)),
         Command::KX => without_parts(decide_slots::decide_delete_slot(
