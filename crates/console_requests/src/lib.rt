@@ -1,6 +1,7 @@
 // A request that the console hands in (docs/CONSOLE.md), as text or as octets, to the function that the library answers
 // with; and the line of its answer.
 use console_state::Console;
+use row_types::Counts;
 use row_types::Tables;
 ghost use mathlib.Core.Path.{_≡_};
 ghost use Prim.Native.Nat.{_≤_};
@@ -46,11 +47,14 @@ fn hand_in(console: Console, number: u64, request: &[u8], out: &mut [u8]) -> Ste
     let tables = console.tables;
     let slots = tables.slots;
     let registers = tables.registers;
+    let counts = Counts {
+        slots: tables.slot_count,
+        registers: tables.register_count,
+    };
     let a = entry_numbers::answer_rows(
         slots,
-        tables.slot_count,
         registers,
-        tables.register_count,
+        counts,
         console.supplement,
         request,
         &mut response[..n],

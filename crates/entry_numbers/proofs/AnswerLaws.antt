@@ -40,7 +40,3 @@ module _ (t : Tables) (n : ℕ) (b : Bool) (p : b ≡ isUsable t n) where
 
   pub no-of : b ≡ false → 0 ≡ yesByte (isUsable t n)
   no-of y = sym (rw (← p, y))
-
--- usable_rows
-pub usable-of : (slots : List SlotRow) (n : ℕ) (rows : List RegisterRow) (m : ℕ) (cards : List (List ℕ)) → cards ≡ map cardIn rows → (i k : ℕ) → k ≡ yesByte (isUsable (tablesWithCards slots n cards m) i) → k ≡ yesByte (isUsable (tablesWith slots n rows m) i)
-usable-of slots n rows m cards w i k p = p ∙ ap (λ (t : Tables). yesByte (isUsable t i)) (tables-again slots n rows m cards w)

@@ -1,6 +1,6 @@
 // The two answers in numbers, for the library's entry points and the console: what the core answers of a request, and
-// which key may vend; each over lent cards, and over register rows by value. Numbers stand in place of enums (document
-// 01, "Where an answer is an enum, a definition gives this paper's number and values for each of its cases").
+// which key may vend; over lent cards, the first over register rows by value too. Numbers stand in place of enums
+// (document 01, "Where an answer is an enum, a definition gives this paper's number and values for each of its cases").
 use engine::Outcome;
 use row_types::Counts;
 use row_types::RegisterRow;
@@ -80,22 +80,17 @@ pub fn answer(
 // The same over register rows by value, whose cards are lent from here.
 pub fn answer_rows(
     slots: [SlotRow; 8],
-    slot_count: usize,
     registers: [RegisterRow; 32],
-    register_count: usize,
+    counts: Counts,
     supplement: Supplement,
     request: &[u8],
     response: &mut [u8],
 ) -> AnsweredRows
-    ensures { λ a. ⌜ Replies (tablesWith slots «slot_count» registers «register_count»)
-        (answerOver (tablesWith slots «slot_count» registers «register_count») supplement request response)
+    ensures { λ a. ⌜ Replies (tablesWith slots (counts .slots) registers (counts .registers))
+        (answerOver (tablesWith slots (counts .slots) registers (counts .registers)) supplement request response)
         (now (response .entry)) (now (response .exit)) (a .reply)
-        (tablesWith (a .slots) «slot_count» (a .registers) «register_count») ⌝ }
+        (tablesWith (a .slots) (counts .slots) (a .registers) (counts .registers)) ⌝ }
 {
-    let counts = Counts {
-        slots: slot_count,
-        registers: register_count,
-    };
     let mut cards = register_tables::cards_of(registers);
     let a = answer(slots, counts, &mut cards, supplement, request, response);
     let reply = a.reply;
@@ -118,23 +113,4 @@ pub fn usable(slots: [SlotRow; 8], counts: Counts, cards: &[[u8; 256]], register
         return 1;
     }
     0
-}
-
-// The same over register rows by value, whose cards are lent from here.
-pub fn usable_rows(
-    slots: [SlotRow; 8],
-    slot_count: usize,
-    registers: [RegisterRow; 32],
-    register_count: usize,
-    register: usize,
-) -> u8
-    ensures { λ n. ⌜ n
-        ≡ yesByte (isUsable (tablesWith slots «slot_count» registers «register_count») register) ⌝ }
-{
-    let counts = Counts {
-        slots: slot_count,
-        registers: register_count,
-    };
-    let cards = register_tables::cards_of(registers);
-    usable(slots, counts, &cards, register)
 }
