@@ -46,7 +46,7 @@ pub extern "C" fn diminurel_handle(
         return a.reply;
     }
     row_lending::store_slots(slots, a.slots);
-    row_lending::store_cards(registers, cards);
+    row_lending::store_cards(registers, &cards);
     a.reply
 }
 

@@ -1,4 +1,5 @@
 -- A table in a local is lent as a slice for a call, and comes back. The call's lifetime is its own, ν, and ends with it.
+--     table-apart, table-whole     the table of cs lies at (l, 0) where its cells lie there, side by side
 --     lends-table      the table of cs lies at (l, 0): gives ν's token, the `&mut` to cs, and what the lender keeps
 --     table-back       with the token, the `&mut`'s last cells ws and what the lender kept: the table of ws lies at (l, 0)
 --     shares-table, shared-back    the same with a `&`: the table comes back as it was
@@ -34,7 +35,7 @@ Lent ε l γ cs = record { ptr = (l, 0); name = γ; now = cs }
 
 module _ {M : Type 1} {𝓤 : URA M} {H : Heap 𝓤} {A : Atoms 𝓤} {K : Type 0} {W : Given 𝓤 H A} {Γ : List (Item 𝓤)} {G : Goal 𝓤 H} where
   -- a table is its cells, side by side
-  table-apart : K → (ε : CellType) → Single (ε .type .mir) → (N : ℕ) (cs : List (Cell ε)) → Filled ε N cs → (l : ℕ) → Step K W (‵ (row (ε .type) fullShare cs l 0) ∷ Γ) G (‵ (fat fullShare (tableTy ε N) l 0 (tableVal ε cs)) ∷ Γ) G
+  pub table-apart : K → (ε : CellType) → Single (ε .type .mir) → (N : ℕ) (cs : List (Cell ε)) → Filled ε N cs → (l : ℕ) → Step K W (‵ (row (ε .type) fullShare cs l 0) ∷ Γ) G (‵ (fat fullShare (tableTy ε N) l 0 (tableVal ε cs)) ∷ Γ) G
   unfolding partOf
   table-apart t ε one N cs cs-are l = step (λ s.
       owned t (table ε N) (Is (table ε N)) (table-makes ε N 𝓤 H A W) cs (tableVal ε cs ∷ []) cs-are $ move t (1 ∷ []) $
@@ -42,7 +43,7 @@ module _ {M : Type 1} {𝓤 : URA M} {H : Heap 𝓤} {A : Atoms 𝓤} {K : Type 
       fpack t (List Val) (λ vs. fsep (cellAt fullShare (table ε N .mir) vs l 0) (table ε N .own cs vs)) (tableVal ε cs ∷ []) $
       use1 W (‵ (arr-parts (shares (ε .type)) N .part fullShare cs l 0)) (array-apart 𝓤 H A W (ε .type) fullShare one N cs l 0) $ fsplit t $ drop t $ s)
 
-  table-whole : K → (ε : CellType) (N : ℕ) (cs : List (Cell ε)) → length cs ≡ N → (l : ℕ) → (Filled ε N cs → Seq K W (‵ (fat fullShare (tableTy ε N) l 0 (tableVal ε cs)) ∷ Γ) G) → Seq K W (‵ (row (ε .type) fullShare cs l 0) ∷ Γ) G
+  pub table-whole : K → (ε : CellType) (N : ℕ) (cs : List (Cell ε)) → length cs ≡ N → (l : ℕ) → (Filled ε N cs → Seq K W (‵ (fat fullShare (tableTy ε N) l 0 (tableVal ε cs)) ∷ Γ) G) → Seq K W (‵ (row (ε .type) fullShare cs l 0) ∷ Γ) G
   unfolding partOf
   table-whole t ε N cs long l k =
       feqI t ℕ (length cs) N long $ fjoin t $ use1 W (‵ (partAt (table ε N) fullShare cs l 0)) (array-whole 𝓤 H A W (ε .type) fullShare N cs l 0) $ fpick t (λ vs. fsplit t $ move t (1 ∷ []) $

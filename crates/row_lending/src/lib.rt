@@ -70,10 +70,11 @@ pub fn store_slots(slots: &mut [SlotRow], rows: [SlotRow; 8])
 }
 
 // The cards of the lent register rows, likewise.
-pub fn store_cards(registers: &mut [RegisterRow], cards: [[u8; 256]; 32])
-    ensures { λ _. ⌜ now (registers .exit) ≡ overlay (rowsWith cards) (now (registers .entry)) ⌝ }
+pub fn store_cards(registers: &mut [RegisterRow], cards: &[[u8; 256]])
+    ensures { λ _. ⌜ now (registers .exit)
+        ≡ overlay (rowsWith (now (cards .entry))) (now (registers .entry)) ⌝ }
 {
-    let n = placed(registers.len(), 32);
+    let n = placed(registers.len(), cards.len());
     let mut i = 0;
     while i < n {
         registers[i].card = cards[i];

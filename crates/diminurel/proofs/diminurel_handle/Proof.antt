@@ -1,7 +1,7 @@
 -- `diminurel::diminurel_handle` meets its contract: a walk of its code, by hand. Questions 1 and 2 are asked first, and where one is a no nothing is opened. Else the two slices of rows are opened once: their rows are lent to the functions that load
 -- and store them, and in between the cards, which lie in a local, are lent to the function that answers: what request and response own goes there, and is not needed afterwards. What is said of the tables is said of the lent rows (`LentLaws.antt`). Assumes nothing.
 -- In a step the number of `value`, `look`, `init`, `store`, `forget` or `leave` is a place in the list of what there is (`Start`, `Asked`, `After`): a local takes two, the last local comes first, and what stands before the locals is listed where it changes.
-use Rattle.hand_proofs.proofs.Prelude.{_≡_, refl, sym, ℕ, [], _∷_, List, length, URA, fullShare, Ty, named, erased, imm, mut, w8, tyInt, tyRef, tyUnit, Val, vptr, SProp, ent, emp, via, fst∗, id⊢, GName, Lft, Share, ftrue, flft, fat, fobor, fobs, fauth, Memory, Routine, Heap, Env, WpFn, Tables, Atoms, Fun, fact, factI, givenOf, tables, tablesOf, Given, Item, Sq, runs, atRet, ‵, raw, ⋆, _⊛_, _$_, _∵_, !, qed, move, drop, split, join, use0, use1, group, fsplit, fjoin, feqL, suffices, frame, done, agg, whole, sub, look-in, look, store, init, stop, hop, fld, from, load, addr, of-opd, and-then, no-more, assigns, land, enter, rewrite, alloc1, alloc0, params1, pass1, pass0, free0, fmOf, WpFn-mono, owns, Is, pointee, u8, RefT, Held, row, opens-slice, closes-slice, sliceTy, sliceVal, slice-vals, MutSlice, ShrSlice, Room, finally, heres, codedHoleys, mut-slice-tells, shr-slice-tells, owned, heard, nothing, Vals, onEntry, Meets, tripleOf, Contract, Triple, entered, cited, Stays, gave-slice, stay-dropped, walkOf, goes-gave-slice, goes-dropped, Walks, ends-at, walked, walk-meets, yes, Param, shrSliceOf, plain, anyQ, afterSeq, atReturn, Wp, exec, first, bin, lit, lit<, keep, forget, uint-makes, uint-vals, uint-tells, vint, vbool, tyBool, w64, Body, seq}
+use Rattle.hand_proofs.proofs.Prelude.{_≡_, refl, sym, subst, ℕ, [], _∷_, List, length, URA, fullShare, Ty, named, erased, imm, mut, w8, tyInt, tyRef, tyUnit, Val, vptr, SProp, ent, emp, via, fst∗, id⊢, GName, Lft, Share, ftrue, flft, fat, fobor, fobs, fauth, Memory, Routine, Heap, Env, WpFn, Tables, Atoms, Fun, fact, factI, givenOf, tables, tablesOf, Given, Item, Sq, runs, atRet, ‵, raw, ⋆, _⊛_, _$_, _∵_, !, qed, move, drop, split, join, use0, use1, group, fsplit, fjoin, feqL, suffices, frame, done, agg, whole, sub, look-in, look, store, init, stop, hop, fld, from, load, addr, of-opd, and-then, no-more, assigns, land, enter, rewrite, alloc1, alloc0, params1, pass1, pass0, free0, fmOf, WpFn-mono, owns, Is, pointee, u8, RefT, Held, row, opens-slice, closes-slice, sliceTy, sliceVal, slice-vals, MutSlice, ShrSlice, Room, finally, heres, codedHoleys, mut-slice-tells, shr-slice-tells, owned, heard, nothing, Vals, onEntry, Meets, tripleOf, Contract, Triple, entered, cited, Stays, gave-slice, stay-dropped, walkOf, goes-gave-slice, goes-dropped, Walks, ends-at, walked, walk-meets, yes, Param, shrSliceOf, plain, anyQ, afterSeq, atReturn, Wp, exec, first, bin, lit, lit<, keep, forget, uint-makes, uint-vals, uint-tells, vint, vbool, tyBool, w64, Body, seq}
 use prog.Wp.{returns as returned}
 use types.Kit as Kit
 use types.Kit.{prop}
@@ -27,8 +27,8 @@ use Rattle.row_lending.specs.Tables.{overlay, slotTable, cardTable}
 use Rattle.row_lending.proofs.TableTypes.{tableTy, tableVal, table, Filled, table-tells, table-makes, table-typed, filled-long, field-table}
 use Rattle.row_lending.proofs.LentTables.{slot-row, slot-cell, card-cell}
 use Rattle.hand_proofs.proofs.Walk.{unset, holds, value, calls-plain, calls-on, says-all, leave, leave-room}
-use Rattle.row_lending.proofs.Lends.{calls-load, calls-store, gives-up}
-use Rattle.row_lending.proofs.Loan.{lends-table, table-back}
+use Rattle.row_lending.proofs.Lends.{calls-load, calls-store, calls-store-from, gives-up}
+use Rattle.row_lending.proofs.Loan.{table-apart, table-whole, lends-table, table-back}
 use Rattle.row_lending.proofs.load_slots as load-slots
 use Rattle.row_lending.proofs.load_slots.Symbol as load-slots-def
 use Rattle.row_lending.proofs.load_slots.Met as load-slots-thm
@@ -211,7 +211,7 @@ module _ {M : Type 1} (𝓤 : URA M) (H : Heap 𝓤) (A : Atoms 𝓤) (mem : Mem
           nothing ! $ move ! (3 ∷ 0 ∷ []) $ fjoin ! $ nothing ! $ fjoin ! $ nothing ! $ fjoin ! $ move ! (2 ∷ 0 ∷ []) $ fjoin ! $ move ! (1 ∷ 0 ∷ []) $ fjoin ! $ frame ! $
           owned ! reply.the-row (Is reply.the-row) (LL.makes reply.the-type reply′.the-plain 𝓤 H A) r _ is $ done !
 
-      module _ (l₀ l₁ l₂ l₃ l₄ l₅ l₆ l₇ l₈ l₉ l₁₀ l₁₁ l₁₂ l₁₃ l₁₄ l₁₅ l₁₆ l₁₇ l₁₈ l₁₉ l₂₀ l₂₁ l₂₂ l₂₃ l₂₄ l₂₅ l₂₆ l₂₇ l₂₈ : ℕ) where
+      module _ (l₀ l₁ l₂ l₃ l₄ l₅ l₆ l₇ l₈ l₉ l₁₀ l₁₁ l₁₂ l₁₃ l₁₄ l₁₅ l₁₆ l₁₇ l₁₈ l₁₉ l₂₀ l₂₁ l₂₂ l₂₃ l₂₄ l₂₅ l₂₆ l₂₇ l₂₈ l₂₉ l₃₀ : ℕ) where
         abbrev S : Ty
         S = pointee (slot.the-row .written)
 
@@ -242,11 +242,11 @@ module _ {M : Type 1} (𝓤 : URA M) (H : Heap 𝓤) (A : Atoms 𝓤) (mem : Mem
         abbrev E : Env 𝓤 H
         E = (reply′.mir, l₀) ∷ (MutS, l₁) ∷ (MutR, l₂) ∷ (supplement′.mir, l₃) ∷ (ImmQ, l₄) ∷ (MutO, l₅) ∷ (tyInt w8, l₆) ∷ (Cards, l₇) ∷ (answered′.mir, l₈) ∷ (tyInt w64, l₉) ∷ (tyInt w64, l₁₀) ∷ (tyInt w64, l₁₁) ∷ (tyBool, l₁₂)
             ∷ (Cards, l₁₃) ∷ (tyRef erased imm R, l₁₄) ∷ (sliceTy (tyRef erased imm R), l₁₅) ∷ (Slots, l₁₆) ∷ (tyRef erased imm S, l₁₇) ∷ (sliceTy (tyRef erased imm S), l₁₈) ∷ (counts′.mir, l₁₉) ∷ (tyRef erased mut Cards, l₂₀) ∷ (sliceTy (tyRef erased mut Card), l₂₁)
-            ∷ (tyRef erased mut (tyInt w8), l₂₂) ∷ (sliceTy (tyRef erased mut (tyInt w8)), l₂₃) ∷ (tyUnit, l₂₄) ∷ (tyRef erased mut S, l₂₅) ∷ (sliceTy (tyRef erased mut S), l₂₆) ∷ (tyRef erased mut R, l₂₇) ∷ (sliceTy (tyRef erased mut R), l₂₈) ∷ []
+            ∷ (tyRef erased mut (tyInt w8), l₂₂) ∷ (sliceTy (tyRef erased mut (tyInt w8)), l₂₃) ∷ (tyUnit, l₂₄) ∷ (tyRef erased mut S, l₂₅) ∷ (sliceTy (tyRef erased mut S), l₂₆) ∷ (tyRef erased mut R, l₂₇) ∷ (sliceTy (tyRef erased mut R), l₂₈) ∷ (tyRef erased imm Cards, l₂₉) ∷ (sliceTy (tyRef erased imm Card), l₃₀) ∷ []
 
         -- the locals that storing sets, those that loading and answering set, and those of the parameters and the result
         abbrev Unstored : List (Item 𝓤)
-        Unstored = unset (sliceTy (tyRef erased mut R)) l₂₈ ++ unset (tyRef erased mut R) l₂₇ ++ unset (sliceTy (tyRef erased mut S)) l₂₆ ++ unset (tyRef erased mut S) l₂₅ ++ unset tyUnit l₂₄
+        Unstored = unset (sliceTy (tyRef erased imm Card)) l₃₀ ++ unset (tyRef erased imm Cards) l₂₉ ++ unset (sliceTy (tyRef erased mut R)) l₂₈ ++ unset (tyRef erased mut R) l₂₇ ++ unset (sliceTy (tyRef erased mut S)) l₂₆ ++ unset (tyRef erased mut S) l₂₅ ++ unset tyUnit l₂₄
 
         abbrev Unloaded : List (Item 𝓤)
         Unloaded = unset (sliceTy (tyRef erased mut (tyInt w8))) l₂₃ ++ unset (tyRef erased mut (tyInt w8)) l₂₂ ++ unset (sliceTy (tyRef erased mut Card)) l₂₁ ++ unset (tyRef erased mut Cards) l₂₀ ++ unset counts′.mir l₁₉
@@ -275,7 +275,7 @@ module _ {M : Type 1} (𝓤 : URA M) (H : Heap 𝓤) (A : Atoms 𝓤) (mem : Mem
             ∷ ‵ (finally u8 γO w) ∷ ‵ (flft κ₂ q₂) ∷ ‵ (flft κ₃ q₃) ∷ holds Cards l₇ (tableVal card-cell d)
             ++ Unstored ++ holds (sliceTy (tyRef erased mut (tyInt w8))) l₂₃ sO ++ holds (tyRef erased mut (tyInt w8)) l₂₂ (vptr bO oO) ++ holds (sliceTy (tyRef erased mut Card)) l₂₁ (sliceVal (l₇, 0) (length t)) ++ holds (tyRef erased mut Cards) l₂₀ (vptr l₇ 0)
             ++ holds counts′.mir l₁₉ (nval n) ++ holds (sliceTy (tyRef erased imm S)) l₁₈ sS ++ holds (tyRef erased imm S) l₁₇ (vptr bS oS) ++ holds Slots l₁₆ (tableVal slot-cell s) ++ holds (sliceTy (tyRef erased imm R)) l₁₅ sR
-            ++ holds (tyRef erased imm R) l₁₄ (vptr bR oR) ++ unset Cards l₁₃ ++ holds tyBool l₁₂ (vbool (not (eqb (r .reply .outcome) 0))) ++ holds (tyInt w64) l₁₁ (vint w64 (length yO)) ++ holds (tyInt w64) l₁₀ (vint w64 (length yR)) ++ holds (tyInt w64) l₉ (vint w64 (length yS))
+            ++ holds (tyRef erased imm R) l₁₄ (vptr bR oR) ++ holds Cards l₁₃ (tableVal card-cell t) ++ holds tyBool l₁₂ (vbool (not (eqb (r .reply .outcome) 0))) ++ holds (tyInt w64) l₁₁ (vint w64 (length yO)) ++ holds (tyInt w64) l₁₀ (vint w64 (length yR)) ++ holds (tyInt w64) l₉ (vint w64 (length yS))
             ++ holds answered′.mir l₈ (aval r) ++ holds (tyInt w8) l₆ (vint w8 f) ++ Passed
 
         -- what follows an `if`, where its arm has not returned
@@ -285,16 +285,16 @@ module _ {M : Type 1} (𝓤 : URA M) (H : Heap 𝓤) (A : Atoms 𝓤) (mem : Mem
         -- question 1 or 2 is a no: its number is returned, and every slice is given up as it was lent
         refuses : Is u8 f (vint w8 f ∷ []) → T (not (eqb f 0)) → Sq W Asked (runs (𝓣 .C) (𝓣 .Λ) E (seq (assign (place 0 []) (aggregate (copy (place 6 []) ∷ intNeg w8 1 ∷ int w64 0 ∷ []))) return) (Then mir.t-7))
         refuses f-is differs =
-            assigns ! (agg ! (and-then ! (value ! 44 refl) (and-then ! (neg-lit ! tt) (and-then ! (lit ! tt) (no-more !))))) (from ! (stop !)) (init ! 56 refl (LL.lawful reply.the-type reply′.the-laws 𝓤 H A W .typed first _ first-is .0)) $
-            move ! (58 ∷ 59 ∷ []) $ split ! $ move ! (1 ∷ []) $ split ! $ move ! (1 ∷ []) $ split ! $ move ! (1 ∷ []) $ split ! $ move ! (1 ∷ []) $ drop ! $
+            assigns ! (agg ! (and-then ! (value ! 48 refl) (and-then ! (neg-lit ! tt) (and-then ! (lit ! tt) (no-more !))))) (from ! (stop !)) (init ! 60 refl (LL.lawful reply.the-type reply′.the-laws 𝓤 H A W .typed first _ first-is .0)) $
+            move ! (62 ∷ 63 ∷ []) $ split ! $ move ! (1 ∷ []) $ split ! $ move ! (1 ∷ []) $ split ! $ move ! (1 ∷ []) $ split ! $ move ! (1 ∷ []) $ drop ! $
             -- [κ₃; κ₂; κ₁; κ₀; what the parameters own; …]
             move ! (4 ∷ []) $ fsplit ! $ fsplit ! $ drop ! $ fsplit ! $ gives-up ! slot.the-row yS $ move ! (1 ∷ []) $ drop ! $
             -- [the slots; what the others own; κ₃; …]
             move ! (1 ∷ []) $ fsplit ! $ fsplit ! $ drop ! $ fsplit ! $ gives-up ! register.the-row yR $ move ! (1 ∷ []) $ drop ! $
             -- [the registers; what the others own; the slots; κ₃; …]
             move ! (1 ∷ []) $ fsplit ! $ drop ! $ fsplit ! $ drop ! $ fsplit ! $ fsplit ! $ drop ! $ fsplit ! $ gives-up ! u8 yO $ move ! (1 ∷ 2 ∷ []) $ drop ! $ drop ! $
-            -- [the response; the registers; the slots; κ₃; κ₂; κ₁; κ₀; _28; …]: the locals die
-            returns-within ! Post refl (look ! 63 refl) $ leave ! 63 refl refl $ leave ! 61 refl refl $ leave ! 59 refl refl $ leave ! 57 refl refl $ leave ! 55 refl refl $ leave ! 53 refl refl $ leave ! 51 refl refl $ leave-room ! 49 refl refl $ leave-room ! 47 refl refl $ leave ! 45 refl refl $ leave ! 43 refl refl $ leave ! 41 refl refl $ leave ! 39 refl refl $ leave-room ! 37 refl refl $ leave-room ! 35 refl refl $ leave-room ! 33 refl refl $ leave-room ! 31 refl refl $ leave-room ! 29 refl refl $ leave-room ! 27 refl refl $ leave-room ! 25 refl refl $ leave-room ! 23 refl refl $ leave-room ! 21 refl refl $ leave-room ! 19 refl refl $ leave-room ! 17 refl refl $ leave-room ! 15 refl refl $ leave-room ! 13 refl refl $ leave-room ! 11 refl refl $ leave-room ! 9 refl refl $ leave-room ! 7 refl refl $ free0 ! $
+            -- [the response; the registers; the slots; κ₃; κ₂; κ₁; κ₀; _30; …]: the locals die
+            returns-within ! Post refl (look ! 67 refl) $ leave ! 67 refl refl $ leave ! 65 refl refl $ leave ! 63 refl refl $ leave ! 61 refl refl $ leave ! 59 refl refl $ leave ! 57 refl refl $ leave ! 55 refl refl $ leave-room ! 53 refl refl $ leave-room ! 51 refl refl $ leave ! 49 refl refl $ leave ! 47 refl refl $ leave ! 45 refl refl $ leave ! 43 refl refl $ leave-room ! 41 refl refl $ leave-room ! 39 refl refl $ leave-room ! 37 refl refl $ leave-room ! 35 refl refl $ leave-room ! 33 refl refl $ leave-room ! 31 refl refl $ leave-room ! 29 refl refl $ leave-room ! 27 refl refl $ leave-room ! 25 refl refl $ leave-room ! 23 refl refl $ leave-room ! 21 refl refl $ leave-room ! 19 refl refl $ leave-room ! 17 refl refl $ leave-room ! 15 refl refl $ leave-room ! 13 refl refl $ leave-room ! 11 refl refl $ leave-room ! 9 refl refl $ leave-room ! 7 refl refl $ free0 ! $
             move ! (2 ∷ 1 ∷ 0 ∷ 6 ∷ 5 ∷ 4 ∷ 3 ∷ []) $ ends first yS yR yO first-is refl refl refl (refused-first yS yR c (xQ .now) yO differs)
           where
             first : Reply
@@ -306,13 +306,13 @@ module _ {M : Type 1} (𝓤 : URA M) (H : Heap 𝓤) (A : Atoms 𝓤) (mem : Mem
         -- the reply is returned, with the rows zS and zR
         replies : (q : Kit.Post 𝓤 H) → Kit.post 𝓤 H q returned ≡ atReturn 𝓤 H E Post returned → (r : Answered) (d : List (List ℕ)) (w : List ℕ) (zS : List SlotRow) (zR : List RegisterRow) → Is answered.the-row r (aval r ∷ []) → length zS ≡ length yS → length zR ≡ length yR → length w ≡ length yO
             → Handles (record { slots = yS; registers = yR }) (record { request = xQ .now; supplement = c; before = yO; after = w; outcome = r .reply .outcome; state = r .reply .state; size = r .reply .length }) (record { slots = zS; registers = zR })
-            → Sq W (After r d w zS zR) (runs (𝓣 .C) (𝓣 .Λ) E mir.t-31 q)
+            → Sq W (After r d w zS zR) (runs (𝓣 .C) (𝓣 .Λ) E mir.t-32 q)
         replies q e r d w zS zR is lenS lenR lenO promised =
             -- the two slices are closed, and given up
             closes-slice ! tt slot.the-row yS zS lenS bS oS $ gives-up ! slot.the-row zS $ move ! (3 ∷ 4 ∷ 5 ∷ 6 ∷ []) $ closes-slice ! tt register.the-row yR zR lenR bR oR $ gives-up ! register.the-row zR $
-            -- [the registers; their borrow; κ₁; the slots; their borrow; κ₀; the response; κ₂; κ₃; _7; …; _28; …]: the locals die
-            assigns ! (of-opd ! (load ! (from ! (fld ! refl (stop !))) (look-in ! 51 (sub ! 0 refl (whole !))))) (from ! (stop !)) (init ! 65 refl (LL.lawful reply.the-type reply′.the-laws 𝓤 H A W .typed (r .reply) _ reply-is .0)) $
-            returns-within ! Post e (look ! 65 refl) $ leave ! 65 refl refl $ leave ! 63 refl refl $ leave ! 61 refl refl $ leave ! 59 refl refl $ leave ! 57 refl refl $ leave ! 55 refl refl $ leave ! 53 refl refl $ leave ! 9 refl refl $ leave ! 49 refl refl $ leave ! 47 refl refl $ leave ! 45 refl refl $ leave ! 43 refl refl $ leave ! 41 refl refl $ leave-room ! 39 refl refl $ leave ! 37 refl refl $ leave ! 35 refl refl $ leave ! 33 refl refl $ leave ! 31 refl refl $ leave ! 29 refl refl $ leave ! 27 refl refl $ leave ! 25 refl refl $ leave ! 23 refl refl $ leave ! 21 refl refl $ leave ! 19 refl refl $ leave-room ! 17 refl refl $ leave-room ! 15 refl refl $ leave-room ! 13 refl refl $ leave-room ! 11 refl refl $ leave-room ! 9 refl refl $ free0 ! $
+            -- [the registers; their borrow; κ₁; the slots; their borrow; κ₀; the response; κ₂; κ₃; _7; …; _30; …]: the locals die
+            assigns ! (of-opd ! (load ! (from ! (fld ! refl (stop !))) (look-in ! 55 (sub ! 0 refl (whole !))))) (from ! (stop !)) (init ! 69 refl (LL.lawful reply.the-type reply′.the-laws 𝓤 H A W .typed (r .reply) _ reply-is .0)) $
+            returns-within ! Post e (look ! 69 refl) $ leave ! 69 refl refl $ leave ! 67 refl refl $ leave ! 65 refl refl $ leave ! 63 refl refl $ leave ! 61 refl refl $ leave ! 59 refl refl $ leave ! 57 refl refl $ leave ! 9 refl refl $ leave ! 53 refl refl $ leave ! 51 refl refl $ leave ! 49 refl refl $ leave ! 47 refl refl $ leave ! 45 refl refl $ leave ! 43 refl refl $ leave ! 41 refl refl $ leave ! 39 refl refl $ leave ! 37 refl refl $ leave ! 35 refl refl $ leave ! 33 refl refl $ leave ! 31 refl refl $ leave ! 29 refl refl $ leave ! 27 refl refl $ leave ! 25 refl refl $ leave ! 23 refl refl $ leave-room ! 21 refl refl $ leave-room ! 19 refl refl $ leave-room ! 17 refl refl $ leave-room ! 15 refl refl $ leave-room ! 13 refl refl $ leave-room ! 11 refl refl $ leave-room ! 9 refl refl $ free0 ! $
             keep ! (3 ∷ 0 ∷ 6 ∷ 5 ∷ 2 ∷ 7 ∷ 8 ∷ []) $ ends (r .reply) zS zR w reply-is lenS lenR lenO promised
           where
             reply-is : Is reply.the-row (r .reply) (yval (r .reply) ∷ [])
@@ -322,25 +322,32 @@ module _ {M : Type 1} (𝓤 : URA M) (H : Heap 𝓤) (A : Atoms 𝓤) (mem : Mem
         stores : T (not (not (eqb f 0))) → (r : Answered) (d : List (List ℕ)) (w : List ℕ) → Is answered.the-row r (aval r ∷ []) → Filled card-cell 32 d → length w ≡ length yO → Replied r d w → Sq W (After r d w yS yR) (runs (𝓣 .C) (𝓣 .Λ) E mir.t-24 (atRet E Post))
         stores asked r d w is d-is lenO replied =
             -- the slots are lent to the function that stores them
-            assigns ! (addr ! (from ! (fld ! refl (hop ! (look-in ! 65 (sub ! 0 refl (whole !))) (stop !))))) (from ! (stop !)) (init ! 19 refl (tt, tt)) $
-            assigns ! (agg ! (and-then ! (value ! 19 refl) (and-then ! (load ! (from ! (fld ! refl (stop !))) (look-in ! 65 (sub ! 1 refl (whole !)))) (no-more !)))) (from ! (stop !)) (init ! 17 refl (tt, (tt, (record { fits = roomS .0 }, tt)))) $
+            assigns ! (addr ! (from ! (fld ! refl (hop ! (look-in ! 69 (sub ! 0 refl (whole !))) (stop !))))) (from ! (stop !)) (init ! 23 refl (tt, tt)) $
+            assigns ! (agg ! (and-then ! (value ! 23 refl) (and-then ! (load ! (from ! (fld ! refl (stop !))) (look-in ! 69 (sub ! 1 refl (whole !)))) (no-more !)))) (from ! (stop !)) (init ! 21 refl (tt, (tt, (record { fits = roomS .0 }, tt)))) $
             calls-store ! (fmOf 𝓤 H (W .laws) 𝓣) slot.the-row (table slot-cell 8) (store-slots.clauses 𝓤 H A mem run) store-slots-known yS bS oS roomS (r .slots) _ (table-makes slot-cell 8 𝓤 H A W) (field-table slot-row 8 (r .slots) _ (LL.owed answered.the-type answered′.the-laws r _ is .1 .0)) (λ _ _. tt) (λ _ _. id⊢ 𝓤 (emp 𝓤)) zS (λ _ _ _ _. id⊢ 𝓤 _)
-            (λ _ _. and-then ! (value ! 18 refl) (and-then ! (load ! (from ! (fld ! refl (stop !))) (look-in ! 54 (sub ! 1 refl (whole !)))) (no-more !))) (λ lenS. land ! (from ! (stop !)) (init ! 21 refl (tt, tt)) $ move ! (4 ∷ []) $
-            -- and so the registers
-            assigns ! (addr ! (from ! (fld ! refl (hop ! (look-in ! 63 (sub ! 0 refl (whole !))) (stop !))))) (from ! (stop !)) (init ! 15 refl (tt, tt)) $
-            assigns ! (agg ! (and-then ! (value ! 15 refl) (and-then ! (load ! (from ! (fld ! refl (stop !))) (look-in ! 63 (sub ! 1 refl (whole !)))) (no-more !)))) (from ! (stop !)) (init ! 13 refl (tt, (tt, (record { fits = roomR .0 }, tt)))) $
-            assigns ! (of-opd ! (value ! 11 refl)) (from ! (stop !)) (init ! 43 refl (table-typed card-cell 32 𝓤 H A W d _ d-is)) $
-            calls-store ! (fmOf 𝓤 H (W .laws) 𝓣) register.the-row (table card-cell 32) (store-cards.clauses 𝓤 H A mem run) store-cards-known yR bR oR roomR d (tableVal card-cell d) (table-makes card-cell 32 𝓤 H A W) d-is (λ _ _. tt) (λ _ _. id⊢ 𝓤 (emp 𝓤)) zR (λ _ _ _ _. id⊢ 𝓤 _)
-            (λ _ _. and-then ! (value ! 14 refl) (and-then ! (value ! 44 refl) (no-more !))) (λ lenR. land ! (from ! (stop !)) (store ! 21 refl (tt, tt)) $
-            -- what storing made is forgotten
-            move ! (1 ∷ 2 ∷ 3 ∷ 4 ∷ 0 ∷ []) $ forget ! 13 refl $ forget ! 15 refl $ forget ! 17 refl $ forget ! 19 refl $ forget ! 21 refl $ forget ! 43 refl $
-            replies (atRet E Post) refl r d w zS zR is lenS lenR lenO (stored yS yR c (xQ .now) yO asked (r .reply) w _ replied)))
+            (λ _ _. and-then ! (value ! 22 refl) (and-then ! (load ! (from ! (fld ! refl (stop !))) (look-in ! 58 (sub ! 1 refl (whole !)))) (no-more !))) (λ lenS. land ! (from ! (stop !)) (init ! 25 refl (tt, tt)) $ move ! (4 ∷ []) $
+            -- and so the registers, with the cards
+            assigns ! (addr ! (from ! (fld ! refl (hop ! (look-in ! 67 (sub ! 0 refl (whole !))) (stop !))))) (from ! (stop !)) (init ! 19 refl (tt, tt)) $
+            assigns ! (agg ! (and-then ! (value ! 19 refl) (and-then ! (load ! (from ! (fld ! refl (stop !))) (look-in ! 67 (sub ! 1 refl (whole !)))) (no-more !)))) (from ! (stop !)) (init ! 17 refl (tt, (tt, (record { fits = roomR .0 }, tt)))) $
+            assigns ! (addr ! (from ! (stop !))) (from ! (stop !)) (init ! 15 refl (tt, tt)) $
+            assigns ! (agg ! (and-then ! (value ! 15 refl) (and-then ! (lit ! tt) (no-more !)))) (from ! (stop !)) (init ! 13 refl (tt, (tt, (record { fits = lit< tt }, tt)))) $
+            rewrite ! 13 (λ (m : ℕ). ‵ (fat fullShare (sliceTy (tyRef erased imm Card)) l₃₀ 0 (sliceVal (l₇, 0) m))) (sym long) refl $
+            move ! (11 ∷ []) $ table-apart ! card-cell tt 32 d d-is l₇ $ move ! (1 ∷ []) $
+            -- [the registers; the cards; the slots; …; …; …; …; …; …; the response; κ₂; κ₃; _7; _30; …]
+            calls-store-from ! (fmOf 𝓤 H (W .laws) 𝓣) register.the-row (card-cell .type) (store-cards.clauses 𝓤 H A mem run) store-cards-known yR bR oR roomR d l₇ 0 (subst (Room (card-cell .type)) (sym long) (lit< tt, lit< tt)) (λ _ _ _ _. tt) (λ _ _ _ _. id⊢ 𝓤 (emp 𝓤)) zR (λ _ _ _ _ _ _. id⊢ 𝓤 _)
+            (λ _ _ _. and-then ! (value ! 18 refl) (and-then ! (value ! 14 refl) (no-more !))) (λ lenR. land ! (from ! (stop !)) (store ! 25 refl (tt, tt)) $ move ! (1 ∷ []) $ table-whole ! card-cell 32 d long l₇ (λ _.
+            -- [_7; the registers; the slots; …; …; …; …; …; …; the response; κ₂; κ₃; …; _30; …]: what storing made is forgotten
+            move ! (2 ∷ 3 ∷ 4 ∷ 5 ∷ 1 ∷ 6 ∷ 7 ∷ 8 ∷ 9 ∷ 10 ∷ 11 ∷ 0 ∷ []) $ forget ! 13 refl $ forget ! 15 refl $ forget ! 17 refl $ forget ! 19 refl $ forget ! 21 refl $ forget ! 23 refl $ forget ! 25 refl $
+            replies (atRet E Post) refl r d w zS zR is lenS lenR lenO (stored yS yR c (xQ .now) yO asked (r .reply) w _ replied))))
           where
             zS : List SlotRow
             zS = overlay (r .slots) yS
 
             zR : List RegisterRow
             zR = overlay (rowsWith d) yR
+
+            long : length d ≡ 32
+            long = filled-long card-cell 32 d d-is
 
         -- what there is once the rows are loaded: the slots, the registers, what closes each, the tokens, what request and response own, and the locals
         abbrev Loaded : List (Item 𝓤)
@@ -356,12 +363,12 @@ module _ {M : Type 1} (𝓤 : URA M) (H : Heap 𝓤) (A : Atoms 𝓤) (mem : Mem
         asks-tables : T (not (not (eqb f 0))) → Filled slot-cell 8 s → Filled card-cell 32 t → Sq W Loaded (runs (𝓣 .C) (𝓣 .Λ) E mir.t-21 (atRet E Post))
         asks-tables asked s-is t-is =
             -- the cards are lent
-            move ! (54 ∷ 55 ∷ []) $ lends-table ! tt card-cell tt 32 (lit< tt, lit< tt) t t-is l₇ (λ ν γ.
-            -- [ν; the cards; what the lender keeps; _7; the slots; the registers; …; …; …; …; …; …; κ₂; κ₃; request; response; _28; …]
+            move ! (58 ∷ 59 ∷ []) $ lends-table ! tt card-cell tt 32 (lit< tt, lit< tt) t t-is l₇ (λ ν γ.
+            -- [ν; the cards; what the lender keeps; _7; the slots; the registers; …; …; …; …; …; …; κ₂; κ₃; request; response; _30; …]
             move ! (0 ∷ 12 ∷ 13 ∷ 1 ∷ 14 ∷ 15 ∷ []) $ group ! 6 $
             calls-on ! (fmOf 𝓤 H (W .laws) 𝓣) answer.ended (answer.clauses 𝓤 H A mem run) answer-known (to-answer l₇ ν γ .0) tt (asks l₇ ν γ s-is t-is) aval (LL.tells answered.the-type answered′.the-laws)
-            (and-then ! (value ! 35 refl) (and-then ! (value ! 29 refl) (and-then ! (value ! 25 refl) (and-then ! (value ! 59 refl) (and-then ! (value ! 57 refl) (and-then ! (value ! 21 refl) (no-more !))))))) (λ r ws is.
-            -- [the tokens; what is said of the last values; the `ensures`; what the lender keeps; _7; the slots; the registers; …; _28; …]: what it ensures is learned
+            (and-then ! (value ! 39 refl) (and-then ! (value ! 33 refl) (and-then ! (value ! 29 refl) (and-then ! (value ! 63 refl) (and-then ! (value ! 61 refl) (and-then ! (value ! 25 refl) (no-more !))))))) (λ r ws is.
+            -- [the tokens; what is said of the last values; the `ensures`; what the lender keeps; _7; the slots; the registers; …; _30; …]: what it ensures is learned
             move ! (2 ∷ []) $ use1 W (raw (fact 𝓤 (Replied r (ws .1 .1 .0) (ws .1 .1 .1 .1 .1 .0)))) (id⊢ 𝓤 _) $ heard ! (Replied r (ws .1 .1 .0) (ws .1 .1 .1 .1 .1 .0)) (λ replied.
             -- the tokens are back
             use1 W (‵ (flft (ν ∷ []) fullShare) ⊛ ‵ (flft κ₂ q₂) ⊛ ‵ (flft κ₃ q₃) ⊛ ‵ ftrue) (id⊢ 𝓤 _) $ split ! $ move ! (1 ∷ []) $ split ! $ move ! (1 ∷ []) $ split ! $ move ! (1 ∷ []) $ drop ! $
@@ -370,11 +377,11 @@ module _ {M : Type 1} (𝓤 : URA M) (H : Heap 𝓤) (A : Atoms 𝓤) (mem : Mem
             fsplit ! $ drop ! $ fsplit ! $ drop ! $ fsplit ! $ fsplit ! $ move ! (1 ∷ 2 ∷ []) $ feqL ! (λ lenO. drop ! $
             -- [the response; the cards; κ₃; κ₂; ν; what the lender keeps; _7; the slots; …]: the cards are back
             move ! (4 ∷ 1 ∷ 5 ∷ []) $ table-back ! tt card-cell 32 (ws .1 .1 .0) l₇ ν γ (λ d-is.
-            -- [_7; the response; κ₃; κ₂; …; the slots; the registers; …; …; …; …; …; …; _28; …]
+            -- [_7; the response; κ₃; κ₂; …; the slots; the registers; …; …; …; …; …; …; _30; …]
             move ! (5 ∷ 10 ∷ 11 ∷ 12 ∷ 6 ∷ 7 ∷ 8 ∷ 9 ∷ 1 ∷ 3 ∷ 2 ∷ 0 ∷ 4 ∷ []) $
-            land ! (from ! (stop !)) (init ! 53 refl (LL.lawful answered.the-type answered′.the-laws 𝓤 H A W .typed r _ is .0)) $
-            assigns ! (bin ! (load ! (from ! (fld ! refl (fld ! refl (stop !)))) (look-in ! 53 (sub ! 0 refl (sub ! 0 refl (whole !))))) (lit ! tt) tt) (from ! (stop !)) (store ! 45 refl (tt, tt)) $ forget ! 43 refl $
-            first ! $ branches ! (value ! 45 refl)
+            land ! (from ! (stop !)) (init ! 57 refl (LL.lawful answered.the-type answered′.the-laws 𝓤 H A W .typed r _ is .0)) $
+            assigns ! (bin ! (load ! (from ! (fld ! refl (fld ! refl (stop !)))) (look-in ! 57 (sub ! 0 refl (sub ! 0 refl (whole !))))) (lit ! tt) tt) (from ! (stop !)) (store ! 49 refl (tt, tt)) $
+            first ! $ branches ! (value ! 49 refl)
             (λ differs. replies (Then mir.t-24) refl r (ws .1 .1 .0) (ws .1 .1 .1 .1 .1 .0) yS yR is refl refl lenO (kept yS yR c (xQ .now) yO asked (r .reply) _ _ replied differs))
             (λ _. skips ! $ exec ! (𝓣 .C) (𝓣 .Λ) E mir.t-24 (atRet E Post) $ stores asked r (ws .1 .1 .0) (ws .1 .1 .1 .1 .1 .0) is d-is lenO replied)))))))
 
@@ -382,7 +389,7 @@ module _ {M : Type 1} (𝓤 : URA M) (H : Heap 𝓤) (A : Atoms 𝓤) (mem : Mem
         answers : T (not (not (eqb f 0))) → Sq W Asked (runs (𝓣 .C) (𝓣 .Λ) E mir.t-7 (atRet E Post))
         answers asked =
             -- the tokens and what the parameters own are taken apart, and the two slices of rows are opened
-            move ! (58 ∷ 59 ∷ []) $ split ! $ move ! (1 ∷ []) $ split ! $ move ! (1 ∷ []) $ split ! $ move ! (1 ∷ []) $ split ! $ move ! (1 ∷ []) $ drop ! $
+            move ! (62 ∷ 63 ∷ []) $ split ! $ move ! (1 ∷ []) $ split ! $ move ! (1 ∷ []) $ split ! $ move ! (1 ∷ []) $ split ! $ move ! (1 ∷ []) $ drop ! $
             -- [κ₃; κ₂; κ₁; κ₀; what the parameters own; …]
             move ! (4 ∷ []) $ fsplit ! $ fsplit ! $ drop ! $ fsplit ! $ move ! (0 ∷ 1 ∷ 6 ∷ []) $ opens-slice ! tt slot.the-row yS bS oS $
             -- [the slots; the open borrow; obs; auth; what the others own; κ₃; κ₂; κ₁; …]
@@ -391,50 +398,50 @@ module _ {M : Type 1} (𝓤 : URA M) (H : Heap 𝓤) (A : Atoms 𝓤) (mem : Mem
             move ! (4 ∷ []) $ fsplit ! $ drop ! $ fsplit ! $ move ! (1 ∷ []) $ fsplit ! $ move ! (1 ∷ []) $ drop ! $
             -- [what response owns; request; the registers; …; …; …; the slots; …; …; …; κ₃; κ₂; …]
             move ! (2 ∷ 3 ∷ 4 ∷ 5 ∷ 6 ∷ 7 ∷ 8 ∷ 9 ∷ 11 ∷ 10 ∷ 1 ∷ 0 ∷ []) $
-            -- [the registers; …; …; …; the slots; …; …; …; κ₂; κ₃; request; response; _28; …]: the registers are lent to the function that loads their cards
-            assigns ! (addr ! (from ! (fld ! refl (hop ! (look-in ! 64 (sub ! 0 refl (whole !))) (stop !))))) (from ! (stop !)) (init ! 40 refl (tt, tt)) $
-            assigns ! (agg ! (and-then ! (value ! 40 refl) (and-then ! (load ! (from ! (fld ! refl (stop !))) (look-in ! 64 (sub ! 1 refl (whole !)))) (no-more !)))) (from ! (stop !)) (init ! 38 refl (tt, (tt, (record { fits = roomR .0 }, tt)))) $
+            -- [the registers; …; …; …; the slots; …; …; …; κ₂; κ₃; request; response; _30; …]: the registers are lent to the function that loads their cards
+            assigns ! (addr ! (from ! (fld ! refl (hop ! (look-in ! 68 (sub ! 0 refl (whole !))) (stop !))))) (from ! (stop !)) (init ! 44 refl (tt, tt)) $
+            assigns ! (agg ! (and-then ! (value ! 44 refl) (and-then ! (load ! (from ! (fld ! refl (stop !))) (look-in ! 68 (sub ! 1 refl (whole !)))) (no-more !)))) (from ! (stop !)) (init ! 42 refl (tt, (tt, (record { fits = roomR .0 }, tt)))) $
             calls-load ! (fmOf 𝓤 H (W .laws) 𝓣) register.the-row (table card-cell 32) (load-cards.clauses 𝓤 H A mem run) load-cards-known yR bR oR roomR (λ _ _. tt) (λ _ _. id⊢ 𝓤 (emp 𝓤)) (λ cs. tableVal card-cell cs ∷ []) (table-tells card-cell 32) t (tableVal card-cell t) refl (λ _ _ _ _. id⊢ 𝓤 _)
-            (λ _ _. and-then ! (value ! 39 refl) (no-more !)) (λ t-is. land ! (from ! (stop !)) (init ! 42 refl (table-typed card-cell 32 𝓤 H A W t _ t-is)) $
-            assigns ! (of-opd ! (value ! 42 refl)) (from ! (stop !)) (init ! 54 refl (table-typed card-cell 32 𝓤 H A W t _ t-is)) $ move ! (4 ∷ []) $
+            (λ _ _. and-then ! (value ! 43 refl) (no-more !)) (λ t-is. land ! (from ! (stop !)) (init ! 46 refl (table-typed card-cell 32 𝓤 H A W t _ t-is)) $
+            assigns ! (of-opd ! (value ! 46 refl)) (from ! (stop !)) (init ! 58 refl (table-typed card-cell 32 𝓤 H A W t _ t-is)) $ move ! (4 ∷ []) $
             -- and so the slots, as rows
-            assigns ! (addr ! (from ! (fld ! refl (hop ! (look-in ! 66 (sub ! 0 refl (whole !))) (stop !))))) (from ! (stop !)) (init ! 34 refl (tt, tt)) $
-            assigns ! (agg ! (and-then ! (value ! 34 refl) (and-then ! (load ! (from ! (fld ! refl (stop !))) (look-in ! 66 (sub ! 1 refl (whole !)))) (no-more !)))) (from ! (stop !)) (init ! 32 refl (tt, (tt, (record { fits = roomS .0 }, tt)))) $
+            assigns ! (addr ! (from ! (fld ! refl (hop ! (look-in ! 70 (sub ! 0 refl (whole !))) (stop !))))) (from ! (stop !)) (init ! 38 refl (tt, tt)) $
+            assigns ! (agg ! (and-then ! (value ! 38 refl) (and-then ! (load ! (from ! (fld ! refl (stop !))) (look-in ! 70 (sub ! 1 refl (whole !)))) (no-more !)))) (from ! (stop !)) (init ! 36 refl (tt, (tt, (record { fits = roomS .0 }, tt)))) $
             calls-load ! (fmOf 𝓤 H (W .laws) 𝓣) slot.the-row (table slot-cell 8) (load-slots.clauses 𝓤 H A mem run) load-slots-known yS bS oS roomS (λ _ _. tt) (λ _ _. id⊢ 𝓤 (emp 𝓤)) (λ rs. tableVal slot-cell rs ∷ []) (table-tells slot-cell 8) s (tableVal slot-cell s) refl (λ _ _ _ _. id⊢ 𝓤 _)
-            (λ _ _. and-then ! (value ! 33 refl) (no-more !)) (λ s-is. land ! (from ! (stop !)) (init ! 36 refl (table-typed slot-cell 8 𝓤 H A W s _ s-is)) $
+            (λ _ _. and-then ! (value ! 37 refl) (no-more !)) (λ s-is. land ! (from ! (stop !)) (init ! 40 refl (table-typed slot-cell 8 𝓤 H A W s _ s-is)) $
             -- the counts
-            assigns ! (of-opd ! (load ! (from ! (fld ! refl (stop !))) (look-in ! 66 (sub ! 1 refl (whole !))))) (from ! (stop !)) (store ! 50 refl (tt, record { fits = roomS .0 })) $
-            assigns ! (of-opd ! (load ! (from ! (fld ! refl (stop !))) (look-in ! 64 (sub ! 1 refl (whole !))))) (from ! (stop !)) (store ! 48 refl (tt, record { fits = roomR .0 })) $
-            assigns ! (agg ! (and-then ! (value ! 50 refl) (and-then ! (value ! 48 refl) (no-more !)))) (from ! (stop !)) (init ! 30 refl (LL.lawful counts.the-type counts′.the-laws 𝓤 H A W .typed n _ n-is .0)) $
+            assigns ! (of-opd ! (load ! (from ! (fld ! refl (stop !))) (look-in ! 70 (sub ! 1 refl (whole !))))) (from ! (stop !)) (store ! 54 refl (tt, record { fits = roomS .0 })) $
+            assigns ! (of-opd ! (load ! (from ! (fld ! refl (stop !))) (look-in ! 68 (sub ! 1 refl (whole !))))) (from ! (stop !)) (store ! 52 refl (tt, record { fits = roomR .0 })) $
+            assigns ! (agg ! (and-then ! (value ! 54 refl) (and-then ! (value ! 52 refl) (no-more !)))) (from ! (stop !)) (init ! 34 refl (LL.lawful counts.the-type counts′.the-laws 𝓤 H A W .typed n _ n-is .0)) $
             -- where the cards lie, and how many
-            assigns ! (addr ! (from ! (stop !))) (from ! (stop !)) (init ! 28 refl (tt, tt)) $
-            assigns ! (agg ! (and-then ! (value ! 28 refl) (and-then ! (lit ! tt) (no-more !)))) (from ! (stop !)) (init ! 26 refl (tt, (tt, (record { fits = lit< tt }, tt)))) $
-            rewrite ! 26 (λ (m : ℕ). ‵ (fat fullShare (sliceTy (tyRef erased mut Card)) l₂₁ 0 (sliceVal (l₇, 0) m))) (sym (filled-long card-cell 32 t t-is)) refl $
+            assigns ! (addr ! (from ! (stop !))) (from ! (stop !)) (init ! 32 refl (tt, tt)) $
+            assigns ! (agg ! (and-then ! (value ! 32 refl) (and-then ! (lit ! tt) (no-more !)))) (from ! (stop !)) (init ! 30 refl (tt, (tt, (record { fits = lit< tt }, tt)))) $
+            rewrite ! 30 (λ (m : ℕ). ‵ (fat fullShare (sliceTy (tyRef erased mut Card)) l₂₁ 0 (sliceVal (l₇, 0) m))) (sym (filled-long card-cell 32 t t-is)) refl $
             -- the response is passed on
-            assigns ! (addr ! (from ! (fld ! refl (hop ! (look-in ! 58 (sub ! 0 refl (whole !))) (stop !))))) (from ! (stop !)) (init ! 24 refl (tt, tt)) $
-            assigns ! (agg ! (and-then ! (value ! 24 refl) (and-then ! (load ! (from ! (fld ! refl (stop !))) (look-in ! 58 (sub ! 1 refl (whole !)))) (no-more !)))) (from ! (stop !)) (init ! 22 refl (tt, (tt, (record { fits = roomO .0 }, tt)))) $
+            assigns ! (addr ! (from ! (fld ! refl (hop ! (look-in ! 62 (sub ! 0 refl (whole !))) (stop !))))) (from ! (stop !)) (init ! 28 refl (tt, tt)) $
+            assigns ! (agg ! (and-then ! (value ! 28 refl) (and-then ! (load ! (from ! (fld ! refl (stop !))) (look-in ! 62 (sub ! 1 refl (whole !)))) (no-more !)))) (from ! (stop !)) (init ! 26 refl (tt, (tt, (record { fits = roomO .0 }, tt)))) $
             asks-tables asked s-is t-is))
 
         begins : Sq W Start (runs (𝓣 .C) (𝓣 .Λ) E mir.t-1 (atRet E Post))
         begins =
             -- questions 1 and 2 are asked
-            assigns ! (of-opd ! (load ! (from ! (fld ! refl (stop !))) (look-in ! 54 (sub ! 1 refl (whole !))))) (from ! (stop !)) (init ! 38 refl (tt, record { fits = roomS .0 })) $
-            assigns ! (of-opd ! (load ! (from ! (fld ! refl (stop !))) (look-in ! 52 (sub ! 1 refl (whole !))))) (from ! (stop !)) (init ! 36 refl (tt, record { fits = roomR .0 })) $
-            assigns ! (of-opd ! (load ! (from ! (fld ! refl (stop !))) (look-in ! 46 (sub ! 1 refl (whole !))))) (from ! (stop !)) (init ! 34 refl (tt, record { fits = roomO .0 })) $
+            assigns ! (of-opd ! (load ! (from ! (fld ! refl (stop !))) (look-in ! 58 (sub ! 1 refl (whole !))))) (from ! (stop !)) (init ! 42 refl (tt, record { fits = roomS .0 })) $
+            assigns ! (of-opd ! (load ! (from ! (fld ! refl (stop !))) (look-in ! 56 (sub ! 1 refl (whole !))))) (from ! (stop !)) (init ! 40 refl (tt, record { fits = roomR .0 })) $
+            assigns ! (of-opd ! (load ! (from ! (fld ! refl (stop !))) (look-in ! 50 (sub ! 1 refl (whole !))))) (from ! (stop !)) (init ! 38 refl (tt, record { fits = roomO .0 })) $
             calls-plain ! (fmOf 𝓤 H (W .laws) 𝓣) asks-first.ended (asks-first.clauses 𝓤 H A mem run) asks-first-known
             (tt, tt, tt, (length yS, (length yR, (length yO, tt))), (vint w64 (length yS) ∷ [], (vint w64 (length yR) ∷ [], (vint w64 (length yO) ∷ [], tt)))) tt (id⊢ 𝓤 (emp 𝓤))
             (uint-makes 𝓤 H A W w64, (uint-makes 𝓤 H A W w64, (uint-makes 𝓤 H A W w64, tt))) ((refl, roomS .0), ((refl, roomR .0), ((refl, roomO .0), tt))) (id⊢ 𝓤 (emp 𝓤)) (uint-vals w8) (uint-tells w8) f (vint w8 f) refl (λ _ _. id⊢ 𝓤 _)
-            (and-then ! (value ! 39 refl) (and-then ! (value ! 37 refl) (and-then ! (value ! 35 refl) (no-more !)))) (λ f-is. land ! (from ! (stop !)) (init ! 44 refl (tt, record { fits = f-is .1 })) $
-            assigns ! (bin ! (value ! 44 refl) (lit ! tt) tt) (from ! (stop !)) (init ! 32 refl (tt, tt)) $
-            first ! $ branches ! (value ! 32 refl) (refuses f-is) (λ asked. skips ! $ exec ! (𝓣 .C) (𝓣 .Λ) E mir.t-7 (atRet E Post) $ answers asked))
+            (and-then ! (value ! 43 refl) (and-then ! (value ! 41 refl) (and-then ! (value ! 39 refl) (no-more !)))) (λ f-is. land ! (from ! (stop !)) (init ! 48 refl (tt, record { fits = f-is .1 })) $
+            assigns ! (bin ! (value ! 48 refl) (lit ! tt) tt) (from ! (stop !)) (init ! 36 refl (tt, tt)) $
+            first ! $ branches ! (value ! 36 refl) (refuses f-is) (λ asked. skips ! $ exec ! (𝓣 .C) (𝓣 .Λ) E mir.t-7 (atRet E Post) $ answers asked))
 
       walk : ent 𝓤 (onEntry 𝓤 H A entry.signature (κ₀, (κ₁, (κ₂, (κ₃, tt)))) (q₀, (q₁, (q₂, (q₃, tt)))) a at) (WpFn 𝓤 H (𝓣 .C) (𝓣 .Λ) code.function (sS ∷ sR ∷ xval c ∷ sliceVal (xQ .ptr) (length (xQ .now)) ∷ sO ∷ []) Post)
       walk =
           qed W ((‵ (flft κ₀ q₀) ⊛ ‵ (flft κ₁ q₁) ⊛ ‵ (flft κ₂ q₂) ⊛ ‵ (flft κ₃ q₃) ⊛ ‵ ftrue) ∷ ‵ (owns (MutSlice (named 0) κ₀ slot.the-row ∷ MutSlice (named 1) κ₁ register.the-row ∷ supplement.the-row ∷ ShrSlice (named 2) κ₂ u8 ∷ MutSlice (named 3) κ₃ u8 ∷ []) a at) ∷ []) ∵
           enter ! (𝓣 .C) (𝓣 .Λ) code.function (sS ∷ sR ∷ xval c ∷ sliceVal (xQ .ptr) (length (xQ .now)) ∷ sO ∷ []) _ $
-          alloc1 ! (λ l₀. alloc1 ! (λ l₁. alloc1 ! (λ l₂. alloc1 ! (λ l₃. alloc1 ! (λ l₄. alloc1 ! (λ l₅. alloc1 ! (λ l₆. alloc1 ! (λ l₇. alloc1 ! (λ l₈. alloc1 ! (λ l₉. alloc1 ! (λ l₁₀. alloc1 ! (λ l₁₁. alloc1 ! (λ l₁₂. alloc1 ! (λ l₁₃. alloc1 ! (λ l₁₄. alloc1 ! (λ l₁₅. alloc1 ! (λ l₁₆. alloc1 ! (λ l₁₇. alloc1 ! (λ l₁₈. alloc1 ! (λ l₁₉. alloc1 ! (λ l₂₀. alloc1 ! (λ l₂₁. alloc1 ! (λ l₂₂. alloc1 ! (λ l₂₃. alloc1 ! (λ l₂₄. alloc1 ! (λ l₂₅. alloc1 ! (λ l₂₆. alloc1 ! (λ l₂₇. alloc1 ! (λ l₂₈. alloc0 ! $ params1 ! $
-          pass1 ! (init ! 54 refl (tt, (tt, (record { fits = roomS .0 }, tt)))) $ pass1 ! (init ! 52 refl (tt, (tt, (record { fits = roomR .0 }, tt)))) $ pass1 ! (init ! 50 refl (LL.lawful supplement.the-type supplement′.the-laws 𝓤 H A W .typed c _ c-is .0)) $
-          pass1 ! (init ! 48 refl (tt, (tt, (record { fits = roomQ .0 }, tt)))) $ pass1 ! (init ! 46 refl (tt, (tt, (record { fits = roomO .0 }, tt)))) $ pass0 ! $ begins l₀ l₁ l₂ l₃ l₄ l₅ l₆ l₇ l₈ l₉ l₁₀ l₁₁ l₁₂ l₁₃ l₁₄ l₁₅ l₁₆ l₁₇ l₁₈ l₁₉ l₂₀ l₂₁ l₂₂ l₂₃ l₂₄ l₂₅ l₂₆ l₂₇ l₂₈)))))))))))))))))))))))))))))
+          alloc1 ! (λ l₀. alloc1 ! (λ l₁. alloc1 ! (λ l₂. alloc1 ! (λ l₃. alloc1 ! (λ l₄. alloc1 ! (λ l₅. alloc1 ! (λ l₆. alloc1 ! (λ l₇. alloc1 ! (λ l₈. alloc1 ! (λ l₉. alloc1 ! (λ l₁₀. alloc1 ! (λ l₁₁. alloc1 ! (λ l₁₂. alloc1 ! (λ l₁₃. alloc1 ! (λ l₁₄. alloc1 ! (λ l₁₅. alloc1 ! (λ l₁₆. alloc1 ! (λ l₁₇. alloc1 ! (λ l₁₈. alloc1 ! (λ l₁₉. alloc1 ! (λ l₂₀. alloc1 ! (λ l₂₁. alloc1 ! (λ l₂₂. alloc1 ! (λ l₂₃. alloc1 ! (λ l₂₄. alloc1 ! (λ l₂₅. alloc1 ! (λ l₂₆. alloc1 ! (λ l₂₇. alloc1 ! (λ l₂₈. alloc1 ! (λ l₂₉. alloc1 ! (λ l₃₀. alloc0 ! $ params1 ! $
+          pass1 ! (init ! 58 refl (tt, (tt, (record { fits = roomS .0 }, tt)))) $ pass1 ! (init ! 56 refl (tt, (tt, (record { fits = roomR .0 }, tt)))) $ pass1 ! (init ! 54 refl (LL.lawful supplement.the-type supplement′.the-laws 𝓤 H A W .typed c _ c-is .0)) $
+          pass1 ! (init ! 52 refl (tt, (tt, (record { fits = roomQ .0 }, tt)))) $ pass1 ! (init ! 50 refl (tt, (tt, (record { fits = roomO .0 }, tt)))) $ pass0 ! $ begins l₀ l₁ l₂ l₃ l₄ l₅ l₆ l₇ l₈ l₉ l₁₀ l₁₁ l₁₂ l₁₃ l₁₄ l₁₅ l₁₆ l₁₇ l₁₈ l₁₉ l₂₀ l₂₁ l₂₂ l₂₃ l₂₄ l₂₅ l₂₆ l₂₇ l₂₈ l₂₉ l₃₀)))))))))))))))))))))))))))))))
 
     -- the walk at every call
     walks : Walks 𝓤 H A entry.ended stayed (WpFn 𝓤 H (𝓣 .C) (𝓣 .Λ) code.function) (entry.clauses 𝓤 H A mem run)
