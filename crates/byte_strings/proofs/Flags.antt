@@ -1,5 +1,5 @@
 -- Truth values: what a conjunction says of its parts, and tests that antt computes.
-use mathlib.Core.Path.{_≡_, refl, sym, ap, subst, _∙_}
+use mathlib.Core.Path.{_≡_, refl, sym, subst}
 use mathlib.Core.Bool.{Bool, true, false, not, _&&_, _||_}
 use mathlib.Core.Logic.{_⊎_, inl, inr}
 use Prim.Native.Nat.{ℕ}
@@ -30,13 +30,6 @@ pub both-ways : (a b : Bool) → (a ≡ true → b ≡ true) → (b ≡ true →
 both-ways true b f g = sym (f refl)
 both-ways false true f g = g refl
 both-ways false false f g = refl
-
--- a flag that a chain of && or || made, said of the whole chain
-pub and-yes : {a x y : Bool} → a ≡ true → x ≡ y → x ≡ (a && y)
-and-yes {a} {x} {y} p e = rw p e
-
-pub and-no : {a x : Bool} (y : Bool) → a ≡ false → x ≡ a → x ≡ (a && y)
-and-no {a} {x} y p e = e ∙ p ∙ sym (ap (λ (b : Bool). b && y) p)
 
 -- a test that computes, and the fact that it is true
 pub yes : (b : Bool) → T b → b ≡ true

@@ -27,7 +27,3 @@ pub rows-front : (m : ℕ) (cards : List (List ℕ)) → rowsWith (take m cards)
 rows-front zero cards = refl
 rows-front (suc m) [] = refl
 rows-front (suc m) (c ∷ cs) = ap (λ (z : List RegisterRow). rowWith c ∷ z) (rows-front m cs)
-
--- the first m of the rows, by their cards
-pub rows-lent : (l : List RegisterRow) (m : ℕ) (cards : List (List ℕ)) → cards ≡ map cardIn l → rowsWith (take m cards) ≡ take m l
-rows-lent l m cards e = rows-front m cards ∙ ap (λ (z : List (List ℕ)). take m (rowsWith z)) e ∙ ap (take m) (rows-again l)
