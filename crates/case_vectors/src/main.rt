@@ -4,7 +4,6 @@
 use field_values::Field;
 use libc::STDIN_FILENO;
 use libc::STDOUT_FILENO;
-use message_commands::Command;
 use record_parser::Record;
 ghost use mathlib.Core.Path.{_≡_};
 ghost use mathlib.Core.Bool.{true};
@@ -223,22 +222,6 @@ fn show_value(kind: &[u8], s: &[u8]) -> bool {
     show_records(kind, s)
 }
 
-fn say_command(c: Command) {
-    match c {
-        Command::RS => say(b"  command RS\n"),
-        Command::KC => say(b"  command KC\n"),
-        Command::KR => say(b"  command KR\n"),
-        Command::KL => say(b"  command KL\n"),
-        Command::KF => say(b"  command KF\n"),
-        Command::KX => say(b"  command KX\n"),
-        Command::KD => say(b"  command KD\n"),
-        Command::GA => say(b"  command GA\n"),
-        Command::GL => say(b"  command GL\n"),
-        Command::KQ => say(b"  command KQ\n"),
-        Command::Unknown => say(b"  none of the ten commands (7)\n"),
-    }
-}
-
 // Whether the frame is right; prints what is not.
 fn is_framed(m: &[u8]) -> bool {
     if !message_frames::is_whole(m) {
@@ -250,14 +233,6 @@ fn is_framed(m: &[u8]) -> bool {
         return false;
     }
     true
-}
-
-fn show_request(m: &[u8]) {
-    if !is_framed(m) {
-        return;
-    }
-    say_command(message_commands::command_of(message_frames::header(m)));
-    show_fields(message_frames::payload(m));
 }
 
 fn show_response(m: &[u8]) {
@@ -277,22 +252,8 @@ fn show_response(m: &[u8]) {
     show_fields(&p[2..]);
 }
 
-// Prints a text with its checksum.
-fn show_closed(s: &[u8]) {
-    if 1019 < s.len() {
-        say(b"  too long\n");
-        return;
-    }
-    let mut m = [0u8; 1024];
-    let n = byte_strings::put(&mut m, 0, s);
-    let e = message_writer::close_message(&mut m, n);
-    say(b"  ");
-    say(&m[0..e - 1]);
-    say(b"\n");
-}
-
-// Adds the carriage return and hands the message on.
-fn show_message(is_request: bool, s: &[u8]) {
+// Adds the carriage return, and prints what the response says.
+fn show_message(s: &[u8]) {
     if 1100 < s.len() {
         say(b"  length or carriage return wrong (5)\n");
         return;
@@ -300,28 +261,7 @@ fn show_message(is_request: bool, s: &[u8]) {
     let mut m = [0u8; 1101];
     let n = byte_strings::put(&mut m, 0, s);
     let e = byte_strings::put_byte(&mut m, n, b'\r');
-    if is_request {
-        show_request(&m[0..e]);
-        return;
-    }
     show_response(&m[0..e]);
-}
-
-// Prints what the text gives and answers true, or answers false where the kind is another.
-fn show_message_kind(kind: &[u8], s: &[u8]) -> bool {
-    if byte_strings::same_bytes(kind, b"request") {
-        show_message(true, s);
-        return true;
-    }
-    if byte_strings::same_bytes(kind, b"response") {
-        show_message(false, s);
-        return true;
-    }
-    if byte_strings::same_bytes(kind, b"close") {
-        show_closed(s);
-        return true;
-    }
-    false
 }
 
 // Prints what the text of a line gives, by its kind.
@@ -329,7 +269,8 @@ fn judge(kind: &[u8], text: &[u8]) {
     if show_value(kind, text) {
         return;
     }
-    if show_message_kind(kind, text) {
+    if byte_strings::same_bytes(kind, b"response") {
+        show_message(text);
         return;
     }
     say(b"  unknown kind\n");
