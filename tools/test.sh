@@ -59,12 +59,21 @@ prove() { (cd "$top" && rt ci); }
 edits() { bash "$top/tools/edits.sh"; }
 compare() { compare_in "$top/tools/compare"; }
 
-# Runs the comparison tests of the folder $1: just those that are named above, neither fewer nor more.
+# Runs the comparison tests of the folder $1: just those that are named above, neither fewer nor more. The first builds
+# the archive that the others take as it is; the longest then runs beside the rest, and is printed after them.
 compare_in() {
-    local each there
+    local each there log other status=0
     there=$(cd "$1" && LC_ALL=C && echo *.sh)
     [ "$there" = "${comparisons[*]}" ] || { echo "test: $1 has $there, and not ${comparisons[*]}"; return 1; }
-    for each in "${comparisons[@]}"; do bash "$1/$each" || return 1; done
+    bash "$1/callers.sh" || return 1
+    log=$(mktemp)
+    DIMINUREL_BUILT=yes bash "$1/engine.sh" >"$log" 2>&1 &
+    other=$!
+    for each in console faults library; do DIMINUREL_BUILT=yes bash "$1/$each.sh" || { status=1; break; }; done
+    wait "$other" || status=1
+    cat "$log"
+    rm -f "$log"
+    return $status
 }
 
 # The runner is tried with failing steps first: each must fail, and none may end in a line that reads as a pass.
