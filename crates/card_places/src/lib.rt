@@ -5,6 +5,7 @@ use card_attributes::KEN;
 use card_attributes::KSL;
 use card_attributes::ULM;
 use card_attributes::VND;
+use text_classes::Class;
 use text_forms::Form;
 ghost use mathlib.Core.Path.{_≡_};
 ghost use Prim.Native.Nat.{_+_, _≤_, _<_};
@@ -87,7 +88,7 @@ fn is_clear(s: &[u8], at: usize) -> bool
     if s.len() < at {
         return false;
     }
-    text_classes::are_zeros(&s[at..])
+    text_classes::are_all_long(Class::Zero, &s[at..])
 }
 
 // Whether a card is one as stored; where the entries of KRN and KSL, the one after KSL, and that of SGC stand in it.

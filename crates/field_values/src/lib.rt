@@ -58,7 +58,7 @@ fn field_of(kind: u8, s: &[u8], start: usize, end: usize) -> Field
         return number_of(v);
     }
     if kind == b'P' {
-        if text_classes::are_text(v) {
+        if text_classes::are_all_long(Class::Text, v) {
             return Field::Text { start, end };
         }
         return Field::Bad;

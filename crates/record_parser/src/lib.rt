@@ -1,6 +1,7 @@
 // Records of delimited fields, parsed: PARSE-RECORD (003 clauses 5.5, 5.7.2 and 5.8.2; document 01, "Records").
 use byte_bounds::Bounds;
 use check_sums::Kind;
+use text_classes::Class;
 ghost use mathlib.Core.Path.{_≡_};
 ghost use mathlib.Core.Bool.{true, false, _&&_};
 ghost use mathlib.Core.List.{[], _∷_, _++_};
@@ -112,7 +113,7 @@ pub fn read_record(rectype: &[u8], delimiter: u8, count: usize, source: &[u8]) -
         return no_record();
     }
     let body = body(source);
-    if !text_classes::are_printable(body) {
+    if !text_classes::are_all_long(Class::Printable, body) {
         return no_record();
     }
     cut_fields(delimiter, count, body)

@@ -1,5 +1,6 @@
 // One register row (document 01, "Slots and registers"): whether it is free, and a free row.
 use row_types::RegisterRow;
+use text_classes::Class;
 ghost use mathlib.Core.Path.{_≡_};
 ghost use Rattle.text_classes.specs.Classes.{areAll};
 ghost use Rattle.text_classes.specs.declared.Class.the-variants.{Zero};
@@ -12,7 +13,7 @@ pub fn is_clear(card: &[u8; 256]) -> bool
     if card[0] != 0 {
         return false;
     }
-    text_classes::are_zeros(card)
+    text_classes::are_all_long(Class::Zero, card)
 }
 
 // Whether the row is free.

@@ -1,5 +1,6 @@
 // The supplement, a term of document 01 ("What the caller lends"): whether all of it is well formed (question 4).
 use row_types::Supplement;
+use text_classes::Class;
 use text_forms::Form;
 ghost use mathlib.Core.Path.{_≡_};
 ghost use Rattle.row_types.specs.Supplements.{isIdentityRight, isLoadRequestRight, isWellFormed};
@@ -33,7 +34,7 @@ fn is_load_request_right(supplement: Supplement) -> bool
         return false;
     }
     let request = supplement.request;
-    text_classes::are_text(&request[..n])
+    text_classes::are_all_long(Class::Text, &request[..n])
 }
 
 // Whether the supplement is well formed, all of it.

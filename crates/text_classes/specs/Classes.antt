@@ -13,10 +13,6 @@ use Rattle.text_classes.specs.declared.Class.the-variants.{Text, Printab
 abbrev pub within : ℕ → ℕ → ℕ → Bool
 within b low high = leb low b && leb b high
 
--- a byte in a range
-unfoldable pub isBetween : ℕ → ℕ → ℕ → Bool
-isBetween low high b = within b low high
-
 -- 003 clause 5.1.1: 0-9, A-Z, a-z
 unfoldable pub isAlphanumeric : ℕ → Bool
 isAlphanumeric b =

@@ -1,9 +1,7 @@
 // Text: classes of bytes, and identifiers (document 01, "What the caller lends", "Records", "Cards"; 003 clause 5.1).
 ghost use mathlib.Core.Path.{_≡_};
-ghost use Rattle.byte_strings.specs.Strings.{allOf};
-ghost use Rattle.text_classes.specs.Classes.{within, isBetween, isAlphanumeric, isMark, isOf, areAll};
+ghost use Rattle.text_classes.specs.Classes.{within, isAlphanumeric, isMark, isOf, areAll};
 ghost use Rattle.text_classes.specs.Identifiers.{isIdentifier};
-ghost use Rattle.text_classes.specs.declared.Class.the-variants.{Text, Printable, Zero};
 
 // The classes of bytes that the papers name.
 pub enum Class {
@@ -78,7 +76,7 @@ pub fn is_of(class: Class, byte: u8) -> bool
     }
 }
 
-// Whether every byte is of a class.
+// Whether every byte is of a class, for few bytes: one that is not ends the loop.
 pub fn are_all(class: Class, bytes: &[u8]) -> bool
     ensures { λ r. ⌜ r ≡ areAll class (now (bytes .entry)) ⌝ }
 {
@@ -92,44 +90,17 @@ pub fn are_all(class: Class, bytes: &[u8]) -> bool
     true
 }
 
-// Whether every byte is zero. No byte ends the loop, so that many are tested at a time.
-pub fn are_zeros(bytes: &[u8]) -> bool
-    ensures { λ r. ⌜ r ≡ areAll Zero (now (bytes .entry)) ⌝ }
-{
-    let mut clear = true;
-    let mut k = 0;
-    while k < bytes.len() {
-        clear = clear & (bytes[k] == 0);
-        k += 1;
-    }
-    clear
-}
-
-// Whether every byte is in a range, tested in the same way.
-fn are_within(s: &[u8], low: u8, high: u8) -> bool
-    ensures { λ r. ⌜ r ≡ allOf (isBetween low high) (now (s .entry)) ⌝ }
+// The same for many bytes: no byte ends the loop, so that sixteen are tested at a time.
+pub fn are_all_long(class: Class, bytes: &[u8]) -> bool
+    ensures { λ r. ⌜ r ≡ areAll class (now (bytes .entry)) ⌝ }
 {
     let mut good = true;
     let mut j = 0;
-    while j < s.len() {
-        good = good & within(s[j], low, high);
+    while j < bytes.len() {
+        good = good & is_of(class, bytes[j]);
         j += 1;
     }
     good
-}
-
-// Whether every byte is text.
-pub fn are_text(bytes: &[u8]) -> bool
-    ensures { λ r. ⌜ r ≡ areAll Text (now (bytes .entry)) ⌝ }
-{
-    are_within(bytes, 0x20, 0x7D)
-}
-
-// Whether every byte is printable.
-pub fn are_printable(bytes: &[u8]) -> bool
-    ensures { λ r. ⌜ r ≡ areAll Printable (now (bytes .entry)) ⌝ }
-{
-    are_within(bytes, 0x20, 0x7E)
 }
 
 // Whether a name is an identifier.
@@ -145,5 +116,5 @@ pub fn is_identifier(name: &[u8]) -> bool
     if !is_alphanumeric(name[0]) {
         return false;
     }
-    are_all(Class::Identifier, name)
+    are_all_long(Class::Identifier, name)
 }

@@ -62,13 +62,13 @@ pub fn in_form(form: Form, value: &[u8]) -> bool
             if value.len() != n {
                 return false;
             }
-            text_classes::are_all(Class::Hexadecimal, value)
+            text_classes::are_all_long(Class::Hexadecimal, value)
         }
         Form::HexSome => {
             if value.len() < 1 {
                 return false;
             }
-            text_classes::are_all(Class::Hexadecimal, value)
+            text_classes::are_all_long(Class::Hexadecimal, value)
         }
         Form::Name => text_classes::is_identifier(value),
         Form::Empty => value.len() == 0,
