@@ -10,8 +10,8 @@
 #include "diminurel.h"
 
 static struct {
-    diminurel_slot slots[8];
-    diminurel_register registers[32];
+    diminurel_slot slots[DIMINUREL_SLOTS_MAX];
+    diminurel_register registers[DIMINUREL_REGISTERS_MAX];
 } rows;
 
 /* Where no rows were kept yet, all are free. */
@@ -58,14 +58,15 @@ static diminurel_supplement supplement(void) {
 
 /* Hands in a request. The response goes out after the rows are kept: what it tells of must outlive the power. */
 static int hand_in(const char *request) {
-    static uint8_t response[1024];
-    diminurel_reply r = diminurel_handle(rows.slots, 8, rows.registers, 32, supplement(), (const uint8_t *)request,
-                                         strlen(request), response, sizeof response);
-    if (r.outcome == 0 && !keep_rows())
+    static uint8_t response[DIMINUREL_RESPONSE_MIN];
+    diminurel_reply r = diminurel_handle(rows.slots, DIMINUREL_SLOTS_MAX, rows.registers, DIMINUREL_REGISTERS_MAX,
+                                         supplement(), (const uint8_t *)request, strlen(request), response,
+                                         sizeof response);
+    if (r.outcome == DIMINUREL_ACCEPTED && !keep_rows())
         return 0;
     int shown = r.length > 0 ? (int)r.length - 1 : 0;
     printf("%.5s: outcome %d, state %d, %.*s\n", request, r.outcome, r.state, shown, (const char *)response);
-    return r.outcome == 0;
+    return r.outcome == DIMINUREL_ACCEPTED;
 }
 
 /* GL?RS comes first, since a session must not outlive the power. */
@@ -84,7 +85,7 @@ static int load_key(void) {
 }
 
 static int may_vend(void) {
-    int yes = diminurel_usable(rows.slots, 8, rows.registers, 32, 1) == 1;
+    int yes = diminurel_usable(rows.slots, DIMINUREL_SLOTS_MAX, rows.registers, DIMINUREL_REGISTERS_MAX, 1) == 1;
     printf("register 1 may vend: %s\n", yes ? "yes" : "no");
     return yes;
 }
