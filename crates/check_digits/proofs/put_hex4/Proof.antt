@@ -4,6 +4,9 @@ use borrow.Author.Needs.{needs}
 use Rattle.check_digits.proofs.put_hex4.Statement.{statement}
 use Rattle.check_digits.proofs.put_hex4.Tie as tie
 
+returns : tie.Need-returns
+returns c = (search four-written, search needs)
+
 pub put-hex4-spec : {M : Type 1} → statement M
 put-hex4-spec =
     tie.close
@@ -17,4 +20,4 @@ put-hex4-spec =
     (λ c κs. search needs)
     (λ c κs. search needs)
     (λ c. search needs)
-    (λ c. (search four-written, search needs)))
+    returns)

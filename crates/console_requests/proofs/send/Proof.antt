@@ -4,6 +4,9 @@ use borrow.Author.Needs.{needs}
 use Rattle.console_requests.proofs.send.Statement.{statement}
 use Rattle.console_requests.proofs.send.Tie as tie
 
+returns : tie.Need-returns
+returns c = (search (same-state, sent), (search (same-said, sent), search needs))
+
 pub send-spec : {M : Type 1} → statement M
 send-spec =
     tie.close
@@ -17,4 +20,4 @@ send-spec =
     (λ c. front _ _ (search needs))
     (λ c κs. search needs)
     (λ c. search needs)
-    (λ c. (search (same-state, sent), (search (same-said, sent), search needs))))
+    returns)

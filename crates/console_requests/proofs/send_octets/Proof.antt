@@ -4,6 +4,9 @@ use borrow.Author.Needs.{needs}
 use Rattle.console_requests.proofs.send_octets.Statement.{statement}
 use Rattle.console_requests.proofs.send_octets.Tie as tie
 
+returns : tie.Need-returns
+returns c = (search (same-state, sent-octets), (search (same-said, sent-octets), search needs))
+
 pub send-octets-spec : {M : Type 1} → statement M
 send-octets-spec =
     tie.close
@@ -15,4 +18,4 @@ send-octets-spec =
     (λ c. front _ _ (search needs))
     (λ c κs. search needs)
     (λ c. search needs)
-    (λ c. (search (same-state, sent-octets), (search (same-said, sent-octets), search needs))))
+    returns)

@@ -4,6 +4,9 @@ use borrow.Author.Needs.{needs}
 use Rattle.console_state.proofs.set_by.Statement.{statement}
 use Rattle.console_state.proofs.set_by.Tie as tie
 
+returns : tie.Need-returns
+returns c = search tables-set
+
 pub set-by-spec : {M : Type 1} → statement M
 set-by-spec =
     tie.close
@@ -30,7 +33,7 @@ set-by-spec =
     (λ c κs. search needs)
     (λ c κs. search needs)
     (λ c κs. search needs)
-    (λ c. search tables-set)
+    returns
     (λ c. search buffer-set)
     (λ c. search part-set)
     (λ c. search passed-set)

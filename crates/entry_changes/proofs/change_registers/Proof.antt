@@ -4,6 +4,9 @@ use borrow.Author.Needs.{needs}
 use Rattle.entry_changes.proofs.change_registers.Statement.{statement}
 use Rattle.entry_changes.proofs.change_registers.Tie as tie
 
+returns-2 : tie.Need-returns-2
+returns-2 c = search (cards-freed, needs)
+
 pub change-registers-spec : {M : Type 1} → statement M
 change-registers-spec =
     tie.close
@@ -21,7 +24,7 @@ change-registers-spec =
     (λ c. search needs)
     (λ c. search load-made)
     (λ c. search needs)
-    (λ c. search (cards-freed, needs))
+    returns-2
     (λ c. search needs)
     (λ c. search delete-key-made)
     (λ c. search registers-kept))

@@ -4,6 +4,12 @@ use borrow.Author.Needs.{needs}
 use Rattle.entry_changes.proofs.change_slots.Statement.{statement}
 use Rattle.entry_changes.proofs.change_slots.Tie as tie
 
+returns : tie.Need-returns
+returns c = search reset-made
+
+returns-4 : tie.Need-returns-4
+returns-4 c = search (close-made, close-can, needs)
+
 pub change-slots-spec : {M : Type 1} → statement M
 change-slots-spec =
     tie.close
@@ -30,9 +36,9 @@ change-slots-spec =
     (λ c κs. search needs)
     (λ c. search (delete-slot-can, delete-slot-fits, needs))
     (λ c. search (delete-slot-can, delete-slot-fits, needs))
-    (λ c. search reset-made)
+    returns
     (λ c. search start-made)
     (λ c. search (open-made, open-can, needs))
-    (λ c. search (close-made, close-can, needs))
+    returns-4
     (λ c. search delete-slot-made)
     (λ c. search slots-kept))

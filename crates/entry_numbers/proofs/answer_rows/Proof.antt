@@ -4,6 +4,9 @@ use borrow.Author.Needs.{needs}
 use Rattle.entry_numbers.proofs.answer_rows.Statement.{statement}
 use Rattle.entry_numbers.proofs.answer_rows.Tie as tie
 
+returns : tie.Need-returns
+returns c = search replies-of
+
 pub answer-rows-spec : {M : Type 1} → statement M
 answer-rows-spec =
     tie.close
@@ -13,4 +16,4 @@ answer-rows-spec =
     (λ c κs. search needs)
     (λ c κs. search needs)
     (λ c. search needs)
-    (λ c. search replies-of))
+    returns)

@@ -5,6 +5,9 @@ use borrow.Author.Needs.{needs}
 use Rattle.entry_usable.proofs.is_usable.Statement.{statement}
 use Rattle.entry_usable.proofs.is_usable.Tie as tie
 
+returns-2 : tie.Need-returns-2
+returns-2 c = search sound-no
+
 pub is-usable-spec : {M : Type 1} → statement M
 is-usable-spec =
     tie.close
@@ -13,7 +16,7 @@ is-usable-spec =
     (λ c. search counts-no)
     (λ c. search (lent-front, few-registers))
     (λ c κs. (search few-slots, search (lent-few, few-registers)))
-    (λ c. search sound-no)
+    returns-2
     (λ c. search first-no)
     (λ c. search (beyond-no, few-registers))
     (λ c κs. (search needs, in-places _ _ (c .before .if4 .left) (few-registers _ _ _ (c .before .before .before .before .before .before .before .before .are-counts .ensures) (c .before .before .before .before .before .before .before .if1 .left))))

@@ -4,6 +4,9 @@ use borrow.Author.Needs.{needs}
 use Rattle.entry_usable.proofs.is_usable_in.Statement.{statement}
 use Rattle.entry_usable.proofs.is_usable_in.Tie as tie
 
+returns : tie.Need-returns
+returns c = search usable-in
+
 pub is-usable-in-spec : {M : Type 1} → statement M
 is-usable-in-spec =
     tie.close
@@ -11,4 +14,4 @@ is-usable-in-spec =
     (λ c κs. search needs)
     (λ c. search needs)
     (λ c κs. search needs)
-    (λ c. search usable-in))
+    returns)

@@ -6,6 +6,14 @@ use borrow.Author.Needs.{needs}
 use Rattle.record_identities.proofs.is_identity_in_form.Statement.{statement}
 use Rattle.record_identities.proofs.is_identity_in_form.Tie as tie
 
+returns-2 : tie.Need-returns-2
+unfolding identityInForm
+returns-2 c = search (fieldChain, needs)
+
+returns-4 : tie.Need-returns-4
+unfolding identityInForm
+returns-4 c = search (fieldChain, needs)
+
 pub is-identity-in-form-spec : {M : Type 1} → statement M
 unfolding identityInForm
 is-identity-in-form-spec =
@@ -16,10 +24,10 @@ is-identity-in-form-spec =
     (λ c. search (fieldChain, needs))
     (λ c. search needs)
     (λ c κs. search (field-fits, needs))
-    (λ c. search (fieldChain, needs))
+    returns-2
     (λ c. search needs)
     (λ c κs. search (field-fits, needs))
     (λ c. search (fieldChain, needs))
     (λ c. search needs)
     (λ c κs. search (field-fits, needs))
-    (λ c. search (fieldChain, needs)))
+    returns-4)

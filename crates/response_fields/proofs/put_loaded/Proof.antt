@@ -4,6 +4,9 @@ use borrow.Author.Needs.{needs}
 use Rattle.response_fields.proofs.put_loaded.Statement.{statement}
 use Rattle.response_fields.proofs.put_loaded.Tie as tie
 
+returns : tie.Need-returns
+returns c = (search then-fields, search card-short)
+
 pub put-loaded-spec : {M : Type 1} → statement M
 put-loaded-spec =
     tie.close
@@ -13,4 +16,4 @@ put-loaded-spec =
     (λ c κs. search needs)
     (λ c κs. (search needs, search card-fits))
     (λ c. search needs)
-    (λ c. (search then-fields, search card-short)))
+    returns)

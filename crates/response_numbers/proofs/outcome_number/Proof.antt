@@ -4,6 +4,12 @@ use borrow.Author.Needs.{needs}
 use Rattle.response_numbers.proofs.outcome_number.Statement.{statement}
 use Rattle.response_numbers.proofs.outcome_number.Tie as tie
 
+returns : tie.Need-returns
+returns c = search needs
+
+returns-2 : tie.Need-returns-2
+returns-2 c = search needs
+
 pub outcome-number-spec : {M : Type 1} → statement M
 outcome-number-spec =
     tie.close
@@ -12,6 +18,6 @@ outcome-number-spec =
     (λ c. search needs)
     (λ c. search needs)
     (λ c κs. search needs)
-    (λ c. search needs)
-    (λ c. search needs)
+    returns
+    returns-2
     (λ c. search refused-number))

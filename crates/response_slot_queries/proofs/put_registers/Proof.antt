@@ -19,6 +19,13 @@ Inv-loop dst₀ at m slot owners end₀ i₀ dst end i = (length owners ≡ 32) 
 abbrev μ-loop : tie.MeasureT-loop
 μ-loop dst₀ at m slot owners end₀ i₀ dst end i = m - i
 
+loop-again : tie.Need-loop-again Inv-loop μ-loop
+loop-again c =
+    let wrote = c .before .before .put-register .ensures in
+    let test = c .before .before .before .before in
+    let inv = test .before .loop .inv in
+    (search needs, search needs, search needs, search needs, search needs, owner-told _ _ _ _ _ (wrote .0) (inv .5) (inv .0) (inv .1) (test .loop-test .taken))
+
 pub put-registers-spec : {M : Type 1} → statement M
 put-registers-spec =
     tie.close
@@ -33,10 +40,6 @@ put-registers-spec =
     (λ c κs. search needs)
     (λ c. search needs)
     (λ c. search needs)
-    (λ c.
-    let wrote = c .before .before .put-register .ensures in
-    let test = c .before .before .before .before in
-    let inv = test .before .loop .inv in
-    (search needs, search needs, search needs, search needs, search needs, owner-told _ _ _ _ _ (wrote .0) (inv .5) (inv .0) (inv .1) (test .loop-test .taken)))
+    loop-again
     (λ c. search needs)
     (λ c. (search (turns-ended, rows-end), search needs)))

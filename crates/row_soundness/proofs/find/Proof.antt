@@ -4,13 +4,19 @@ use borrow.Author.Needs.{needs}
 use Rattle.row_soundness.proofs.find.Statement.{statement}
 use Rattle.row_soundness.proofs.find.Tie as tie
 
+returns : tie.Need-returns
+returns c = (search unsoundCases, ((λ z. search needs), (λ z. search needs)))
+
+returns-4 : tie.Need-returns-4
+returns-4 c = (search unsoundCases, ((λ z. search needs), (λ z. search needs)))
+
 pub find-spec : {M : Type 1} → statement M
 find-spec =
     tie.close
     (tie.spec
     (λ c κs. search needs)
     (λ c κs. search needs)
-    (λ c. (search unsoundCases, ((λ z. search needs), (λ z. search needs))))
+    returns
     (λ c κs. search needs)
     (λ c. search needs)
     (λ c. search (filled-front, needs))
@@ -26,5 +32,5 @@ find-spec =
     (λ c. search keys-front)
     (λ c κs. search needs)
     (λ c κs. search needs)
-    (λ c. (search unsoundCases, ((λ z. search needs), (λ z. search needs))))
+    returns-4
     (λ c. (search all-sound, (search needs, search owners-named))))

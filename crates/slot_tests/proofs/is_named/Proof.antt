@@ -4,12 +4,18 @@ use borrow.Author.Needs.{needs}
 use Rattle.slot_tests.proofs.is_named.Statement.{statement}
 use Rattle.slot_tests.proofs.is_named.Tie as tie
 
+returns : tie.Need-returns
+returns c = search free-not-named
+
+returns-2 : tie.Need-returns-2
+returns-2 c = search named
+
 pub is-named-spec : {M : Type 1} → statement M
 is-named-spec =
     tie.close
     (tie.spec
     (λ c κs. search needs)
-    (λ c. search free-not-named)
+    returns
     (λ c κs. search needs)
     (λ c κs. search needs)
-    (λ c. search named))
+    returns-2)

@@ -16,6 +16,9 @@ Inv-loop class s good₀ j₀ good j = (j ≤ length s) × ((good && allOf (isOf
 abbrev μ-loop : tie.MeasureT-loop
 μ-loop class s good₀ j₀ good j = length s - j
 
+loop-again : tie.Need-loop-again Inv-loop μ-loop
+loop-again c = (search needs, search every-turn)
+
 pub are-all-long-spec : {M : Type 1} → statement M
 are-all-long-spec =
     tie.close
@@ -27,5 +30,5 @@ are-all-long-spec =
     (λ c κs. search needs)
     (λ c. search needs)
     (λ c. search needs)
-    (λ c. (search needs, search every-turn))
+    loop-again
     (λ c. search every-ended))

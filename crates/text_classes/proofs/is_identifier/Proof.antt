@@ -4,14 +4,20 @@ use borrow.Author.Needs.{needs}
 use Rattle.text_classes.proofs.is_identifier.Statement.{statement}
 use Rattle.text_classes.proofs.is_identifier.Tie as tie
 
+returns-2 : tie.Need-returns-2
+returns-2 c = search long-name
+
+returns-3 : tie.Need-returns-3
+returns-3 c = search bad-start
+
 pub is-identifier-spec : {M : Type 1} → statement M
 is-identifier-spec =
     tie.close
     (tie.spec
     (λ c. search no-name)
-    (λ c. search long-name)
+    returns-2
     (λ c. search needs)
     (λ c κs. search needs)
-    (λ c. search bad-start)
+    returns-3
     (λ c κs. search needs)
     (λ c. search a-name))

@@ -16,6 +16,9 @@ Inv-loop s v₀ i₀ v i = (i ≤ length s) × (decFrom v (drop i s) ≡ decFrom
 abbrev μ-loop : tie.MeasureT-loop
 μ-loop s v₀ i₀ v i = length s - i
 
+loop-again : tie.Need-loop-again Inv-loop μ-loop
+loop-again c = let l = c .before .before .before in let s = now (l .before .before .args .digits) in (search needs, search dec-turn, rw (c .digit-value .ensures) (dec-room (l .loop .v) (l .loop .i) (getD s (l .loop .i) 0) (l .loop .inv .2) (omega (arith, c .before .shared-slice-known2 .given (l .loop .i)))))
+
 pub decimal-spec : {M : Type 1} → statement M
 decimal-spec =
     tie.close
@@ -29,5 +32,5 @@ decimal-spec =
     (λ c. let l = c .before .before .before in omega (arith, dec-fits (l .loop .v) (l .loop .i) (l .loop .inv .2) (search needs), c .before .shared-slice-known2 .given (l .loop .i)))
     (λ c. search needs)
     (λ c. search needs)
-    (λ c. let l = c .before .before .before in let s = now (l .before .before .args .digits) in (search needs, search dec-turn, rw (c .digit-value .ensures) (dec-room (l .loop .v) (l .loop .i) (getD s (l .loop .i) 0) (l .loop .inv .2) (omega (arith, c .before .shared-slice-known2 .given (l .loop .i))))))
+    loop-again
     (λ c. let l = c .before in (search dec-ended, dec-small (l .loop .v) (l .loop .i) (l .loop .inv .2) (search needs))))

@@ -4,6 +4,9 @@ use borrow.Author.Needs.{needs}
 use Rattle.text_decimals.proofs.is_number.Statement.{statement}
 use Rattle.text_decimals.proofs.is_number.Tie as tie
 
+returns-6 : tie.Need-returns-6
+returns-6 c = search above
+
 pub is-number-spec : {M : Type 1} → statement M
 is-number-spec =
     tie.close
@@ -16,5 +19,5 @@ is-number-spec =
     (λ c. search padded)
     (λ c κs. search needs)
     (λ c. search below)
-    (λ c. search above)
+    returns-6
     (λ c. search in-range))
