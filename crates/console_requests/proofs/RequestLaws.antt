@@ -12,8 +12,8 @@ use Rattle.message_frames.specs.Frames.{ending, framed}
 use Rattle.row_types.specs.declared.Tables.{Tables}
 use Rattle.engine.specs.Answers.{Answer, response, answerOf, bufferAfter}
 use Rattle.engine.specs.Calls.{callIn, tablesAfter}
-use Rattle.entry_numbers.specs.Replies.{Replies}
-use Rattle.entry_numbers.specs.declared.Reply.{Reply}
+use Rattle.entry_contracts.specs.Replies.{Replies}
+use Rattle.entry_contracts.specs.declared.Reply.{Reply}
 use Rattle.console_octets.specs.Octets.{octetsOf}
 use Rattle.console_state.specs.State.{withTables}
 use Rattle.console_state.specs.declared.Console.{Console}

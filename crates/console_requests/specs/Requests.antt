@@ -10,7 +10,7 @@ use Rattle.engine.specs.Answers.{Answer, response, answerOf}
 use Rattle.engine.specs.Calls.{callIn, tablesAfter}
 use Rattle.engine.specs.Outcomes.{outcomeNumber}
 use Rattle.engine.specs.declared.Outcome.{Outcome}
-use Rattle.entry_numbers.specs.Numbers.{stateByte}
+use Rattle.entry_contracts.specs.Numbers.{stateByte}
 use Rattle.console_state.specs.State.{withTables}
 use Rattle.console_state.specs.declared.Console.{Console}
 use Rattle.console_answers.specs.Answers.{answerLine}

@@ -21,8 +21,8 @@ use Rattle.engine.specs.Outcomes.{outcomeNumber}
 use Rattle.engine.specs.Words.{Lent, Input, callOf, tablesOf, itemOf, itemAt, rowsAfter, emptyRows}
 use Rattle.engine.proofs.ReadsBack.{reads-back}
 use Rattle.engine.proofs.Demand3 as engine
-use Rattle.entry_numbers.specs.Numbers.{stateByte}
-use Rattle.diminurel.specs.Handles.{Run, Handles, inputIn, answerIn}
+use Rattle.entry_contracts.specs.Numbers.{stateByte}
+use Rattle.entry_contracts.specs.Handles.{Run, Handles, inputIn, answerIn}
 use Rattle.demands.specs.Demands.{Runs, itemIn, HoldsOfLists, plain, HasRuns}
 
 -- what was handed in, with the sequence that SM?GL's list had

@@ -28,8 +28,8 @@ use Rattle.engine.proofs.ReadsBack.{reads-back}
 use Rattle.engine.proofs.SlotStates.{isSession, state-left, state-carried}
 use Rattle.engine.proofs.AnswerLaws.{first-no-decides, refused-by, refused-keeps, no-reply-exactly}
 use Rattle.case_answers.proofs.Numbers.{one-number, number-range, answer-zero, answer-within}
-use Rattle.entry_numbers.specs.Numbers.{stateByte}
-use Rattle.diminurel.specs.Handles.{Run, Handles, inputIn, answerIn}
+use Rattle.entry_contracts.specs.Numbers.{stateByte}
+use Rattle.entry_contracts.specs.Handles.{Run, Handles, inputIn, answerIn}
 use Rattle.demands.specs.Demands.{responseIn, SaysReply, slotNameIn, Demand1, Demand2}
 
 -- a state's number is not 255

@@ -18,7 +18,7 @@ use Rattle.engine.specs.Questions.{slotNamed, questions, firstNo}
 use Rattle.engine.specs.Answers.{refusalReply}
 use Rattle.engine.specs.Words.{Input, Lent, callOf, tablesOf, itemOf, emptyRows}
 use Rattle.engine.specs.declared.Refusal.{Refusal}
-use Rattle.diminurel.specs.Handles.{Run, Handles, inputIn, answerIn}
+use Rattle.entry_contracts.specs.Handles.{Run, Handles, inputIn, answerIn}
 
 -- the response: the first bytes of the buffer after the call, as many as was answered, never what lies beyond
 abbrev pub responseIn : Run → List ℕ

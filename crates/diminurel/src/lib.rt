@@ -1,15 +1,15 @@
 // The entry points for callers in any language, over the rows that the caller lends, of any number (document 01, "What
 // the caller lends"): the rows are loaded into tables, answered by value and in numbers, and stored back.
-use entry_numbers::Reply;
+use entry_contracts::Reply;
 use row_types::Counts;
 use row_types::RegisterRow;
 use row_types::SlotRow;
 use row_types::Supplement;
 ghost use mathlib.Core.Path.{_≡_};
 ghost use Rattle.engine.specs.Usable.{isUsable};
-ghost use Rattle.entry_numbers.specs.Numbers.{yesByte};
-ghost use Rattle.diminurel.specs.Handles.{Handled};
-ghost use Rattle.diminurel.specs.Lent.{lentTables};
+ghost use Rattle.entry_contracts.specs.Numbers.{yesByte};
+ghost use Rattle.entry_contracts.specs.Handles.{Handled};
+ghost use Rattle.entry_contracts.specs.Lent.{lentTables};
 
 // Handles a request. Questions 1 and 2 are asked before a row is loaded, and a refusal stores none.
 #[no_mangle]

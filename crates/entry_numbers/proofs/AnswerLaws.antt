@@ -14,9 +14,9 @@ use Rattle.engine.specs.Calls.{callIn}
 use Rattle.engine.specs.Outcomes.{outcomeNumber}
 use Rattle.engine.specs.Usable.{isUsable}
 use Rattle.engine.specs.declared.Outcome.{Outcome}
-use Rattle.entry_numbers.specs.Numbers.{stateByte, yesByte}
-use Rattle.entry_numbers.specs.Replies.{Replies}
-use Rattle.entry_numbers.specs.declared.Reply.{Reply}
+use Rattle.entry_contracts.specs.Numbers.{stateByte, yesByte}
+use Rattle.entry_contracts.specs.Replies.{Replies}
+use Rattle.entry_contracts.specs.declared.Reply.{Reply}
 
 -- answer: t are the tables, o the outcome of the call over them
 module _ (o : Outcome) (t : Tables) (x : Supplement) (q : List ℕ) (room : ℕ) (p : o ≡ answerOf (callIn t x q room) .outcome) (k : ℕ) where

@@ -1,7 +1,7 @@
 // The two answers in numbers, for the library's entry points and the console: what the core answers of a request, and
-// which key may vend; over lent cards, the first over register rows by value too. Numbers stand in place of enums
-// (document 01, "Where an answer is an enum, a definition gives this paper's number and values for each of its cases").
+// which key may vend; over lent cards, the first over register rows by value too.
 use engine::Outcome;
+use entry_contracts::Reply;
 use row_types::Counts;
 use row_types::RegisterRow;
 use row_types::SlotRow;
@@ -11,17 +11,8 @@ ghost use lib.ListN.{length};
 ghost use Rattle.row_index.specs.Lent.{tablesWith, tablesWithCards};
 ghost use Rattle.engine.specs.Calls.{answerOver};
 ghost use Rattle.engine.specs.Usable.{isUsable};
-ghost use Rattle.entry_numbers.specs.Numbers.{stateByte, yesByte};
-ghost use Rattle.entry_numbers.specs.Replies.{Replies};
-
-// The outcome's number, the slot state that the answer carries (255 where it carries none), and the length of the
-// response.
-#[repr(C)]
-pub struct Reply {
-    pub outcome: u8,
-    pub state: u8,
-    pub length: usize,
-}
+ghost use Rattle.entry_contracts.specs.Numbers.{stateByte, yesByte};
+ghost use Rattle.entry_contracts.specs.Replies.{Replies};
 
 // A reply, and the slot rows after it.
 pub struct Answered {

@@ -47,18 +47,18 @@ use Rattle.decide_counts.proofs.first_refusal.Symbol as asks-first-def
 use Rattle.decide_counts.proofs.first_refusal.Met as asks-first-thm
 use Rattle.engine.specs.Answers.{answerOf}
 use Rattle.engine.specs.Calls.{callIn}
-use Rattle.entry_numbers.specs.Replies.{Replies}
-use Rattle.entry_numbers.specs.declared.Reply.{Reply}
+use Rattle.entry_contracts.specs.Replies.{Replies}
+use Rattle.entry_contracts.specs.declared.Reply.{Reply}
 use Rattle.entry_numbers.specs.declared.Answered.{Answered}
-use Rattle.entry_numbers.proofs.Reply as reply
-use Rattle.entry_numbers.proofs.Reply.Laws as reply′
+use Rattle.entry_contracts.proofs.Reply as reply
+use Rattle.entry_contracts.proofs.Reply.Laws as reply′
 use Rattle.entry_numbers.proofs.Answered as answered
 use Rattle.entry_numbers.proofs.Answered.Laws as answered′
 use Rattle.entry_numbers.proofs.answer as answer
 use Rattle.entry_numbers.proofs.answer.Symbol as answer-def
 use Rattle.entry_numbers.proofs.answer.Met as answer-thm
-use Rattle.diminurel.specs.Handles.{Handles}
-use Rattle.diminurel.proofs.LentLaws.{loaded, stored, kept, refused-first}
+use Rattle.entry_contracts.specs.Handles.{Handles}
+use Rattle.entry_contracts.proofs.LentLaws.{loaded, stored, kept, refused-first}
 use Rattle.diminurel.proofs.diminurel_handle as entry
 use Rattle.diminurel.proofs.diminurel_handle.Key.{name}
 use Rattle.diminurel.proofs.diminurel_handle.Statement as stated

@@ -23,11 +23,11 @@ use Rattle.row_lending.proofs.load_cards as load-cards
 use Rattle.row_lending.proofs.load_cards.Symbol as load-cards-def
 use Rattle.row_lending.proofs.load_cards.Met as load-cards-thm
 use Rattle.engine.specs.Usable.{isUsable}
-use Rattle.entry_numbers.specs.Numbers.{yesByte}
+use Rattle.entry_contracts.specs.Numbers.{yesByte}
 use Rattle.entry_numbers.proofs.usable as usable
 use Rattle.entry_numbers.proofs.usable.Symbol as usable-def
 use Rattle.entry_numbers.proofs.usable.Met as usable-thm
-use Rattle.diminurel.proofs.LentLaws.{loaded, same-usable}
+use Rattle.entry_contracts.proofs.LentLaws.{loaded, same-usable}
 use Rattle.diminurel.proofs.diminurel_usable as entry
 use Rattle.diminurel.proofs.diminurel_usable.Key.{name}
 use Rattle.diminurel.proofs.diminurel_usable.Statement as stated

@@ -7,8 +7,8 @@ use Rattle.row_types.specs.declared.Tables.{Tables}
 use Rattle.engine.specs.Answers.{Answer}
 use Rattle.engine.specs.Calls.{Responded, tablesAfter}
 use Rattle.engine.specs.Outcomes.{outcomeNumber}
-use Rattle.entry_numbers.specs.Numbers.{stateByte}
-use Rattle.entry_numbers.specs.declared.Reply.{Reply}
+use Rattle.entry_contracts.specs.Numbers.{stateByte}
+use Rattle.entry_contracts.specs.declared.Reply.{Reply}
 
 -- the answer a over the tables t is replied: outcome and state in numbers, the response in the buffer, as it was before
 -- and is after, and the tables that are left

@@ -34,11 +34,11 @@ use Rattle.engine.proofs.AnswerLaws.{IsUnwritten, first-no-decides, refused-kee
 use Rattle.engine.proofs.Counted.{counted}
 use Rattle.row_lending.specs.Tables.{overlay, freeSlots, freeRegisters, slotTable, registerTable, cardTable}
 use Rattle.row_lending.proofs.OverlayLaws.{overlay-front, overlay-others}
-use Rattle.entry_numbers.specs.Numbers.{stateByte}
-use Rattle.entry_numbers.specs.Replies.{Replies}
-use Rattle.entry_numbers.specs.declared.Reply.{Reply}
-use Rattle.diminurel.specs.Lent.{LentResponded, lentTables}
-use Rattle.diminurel.specs.Handles.{Run, Handles}
+use Rattle.entry_contracts.specs.Numbers.{stateByte}
+use Rattle.entry_contracts.specs.Replies.{Replies}
+use Rattle.entry_contracts.specs.declared.Reply.{Reply}
+use Rattle.entry_contracts.specs.Lent.{LentResponded, lentTables}
+use Rattle.entry_contracts.specs.Handles.{Run, Handles}
 
 -- 8 and 32 places
 slot-places : length freeSlots ≡ 8

@@ -1,2 +1,4 @@
 pub mod Numbers
 pub mod Replies
+pub mod Lent
+pub mod Handles

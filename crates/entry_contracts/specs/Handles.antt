@@ -12,9 +12,9 @@ use Rattle.row_types.specs.declared.Supplement.{Supplement}
 use Rattle.engine.specs.Answers.{Answer, answerOf}
 use Rattle.engine.specs.Outcomes.{outcomeNumber}
 use Rattle.engine.specs.Words.{Input, Lent, callOf}
-use Rattle.entry_numbers.specs.Numbers.{stateByte}
-use Rattle.entry_numbers.specs.declared.Reply.{Reply}
-use Rattle.diminurel.specs.Lent.{LentResponded}
+use Rattle.entry_contracts.specs.Numbers.{stateByte}
+use Rattle.entry_contracts.specs.declared.Reply.{Reply}
+use Rattle.entry_contracts.specs.Lent.{LentResponded}
 
 -- a call: request, supplement and response buffer as they were handed in; afterwards the buffer, the outcome's number,
 -- the number of the slot state that the answer carries (255 where it carries none), and the length of the response
