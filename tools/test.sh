@@ -21,10 +21,11 @@ in_memory() {
 }
 if in_memory; then export TMPDIR=/dev/shm; fi
 
-# rt waits for all checks that it started together before it starts the next ones. With four on two processors none
-# idles beside a long one; each takes up to 1.5 GB, and 0.4 GB of TMPDIR. Alone, a check takes half of what is printed.
+# rt waits for all checks that it started together before it starts the next ones. With three on two processors hardly
+# one idles beside a long one; four take longer again, since each takes up to 1.5 GB, and 0.4 GB of TMPDIR. Alone, a
+# check takes two thirds of what is printed.
 free=$(awk '/^MemAvailable:/ { print $2 }' /proc/meminfo 2>/dev/null || true)
-if [ -z "${RT_JOBS:-}" ] && [ "${free:-0}" -ge 8000000 ]; then export RT_JOBS=4; fi
+if [ -z "${RT_JOBS:-}" ] && [ "$(nproc)" -eq 2 ] && [ "${free:-0}" -ge 6000000 ]; then export RT_JOBS=3; fi
 
 # Runs the steps with the commands given: $1 looks at kit and documents, $2 proves, $3 reads the edits' logs, $4
 # compares. The last line of $2 is kept for the end.
@@ -62,20 +63,20 @@ same_kit() { [ "$1" = "$(cat "$2")" ] || { echo "test: the kit is '$1', and $2 p
 look() { same_kit "$(rt version)" "$top/tools/kit" && bash "$top/tools/documents.sh"; }
 prove() { (cd "$top" && rt ci); }
 edits() { bash "$top/tools/edits.sh"; }
-compare() { compare_in "$top/tools/compare"; }
+archive() { (cd "$top" && rt staticlib diminurel) | grep -E '^rt: '; }
+compare() { archive && compare_in "$top/tools/compare"; }
 
-# Runs the comparison tests of the folder $1: just those that are named above, neither fewer nor more. The first builds
-# the archive that the others take as it is; the longest then runs beside the rest, and is printed after them.
+# Runs the comparison tests of the folder $1: just those that are named above, neither fewer nor more. They take the
+# archive as it is; the longest runs beside the rest, and is printed after them.
 compare_in() {
     local each there log other status=0
     there=$(cd "$1" && LC_ALL=C && echo *.sh)
     [ "$there" = "${comparisons[*]}" ] || { echo "test: $1 has $there, and not ${comparisons[*]}"; return 1; }
-    bash "$1/callers.sh" || return 1
     log=$(mktemp)
     DIMINUREL_BUILT=yes bash "$1/engine.sh" >"$log" 2>&1 &
     other=$!
     for each in "${comparisons[@]}"; do
-        case $each in callers.sh | engine.sh) continue ;; esac
+        [ "$each" != engine.sh ] || continue
         DIMINUREL_BUILT=yes bash "$1/$each" || { status=1; break; }
     done
     wait "$other" || status=1

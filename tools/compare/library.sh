@@ -78,7 +78,8 @@ if command -v pkg-config > /dev/null; then
     flags=$(PKG_CONFIG_PATH=$packages pkg-config --cflags --libs diminurel)
 fi
 cc -std=c11 $warnings callers/c/example.c $flags -o "$work/example"
-"$work/example" | diff callers/c/example.out -
+mkdir "$work/host" # where it keeps its rows
+(cd "$work/host" && ../example) | diff callers/c/example.out -
 cat > "$work/empty.cc" << 'END'
 #include <diminurel.h>
 int main() {
