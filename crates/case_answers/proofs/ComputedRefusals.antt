@@ -71,7 +71,7 @@ reply10-bytes = refl
 abbrev pub EachAnswered : List (List ℕ) → Type 0
 EachAnswered [] = Unit {0}
 EachAnswered (q ∷ qs) =
-    (answerOf (callOf loading (hand q)) ≡ record { outcome = Refused BadForm; reply = λ names. some reply10; slots = loading .slots; registers = loading .registers }) × EachAnswered qs
+    (answerOf (callOf loading (hand q)) ≡ record { outcome = Refused BadForm; reply = some reply10; slots = loading .slots; registers = loading .registers }) × EachAnswered qs
 
 pub each-answered : EachAnswered requests
 unfolding crcBit crcEight crcByte hexDigit sumDigits endsInSum isAlphanumeric areAll isIdentifier isUnpadded isNumber daysIn isDate isTime isDateAndTime timestampOf isTimestamp typed valuesOf contentBytes endsInReturn isWhole isChecked textOf headerOf payloadOf ending framed answered headers commandOf bodyOf field isRecord isAlgorithm table nameOf valueOf fits isCard isMet isIncoming identityInForm keyInForm padded trimmed isVacant attributeOf isRegisterSound isSameKey freeRegister isZeroSlot isNamed isFilledSlot isSlotSound isSameSlot freeSlot filledSlot isOwned areSound isIdentityRight isLoadRequestRight isWellFormed areFieldsOf recordIn areCounts questions refused answerOf

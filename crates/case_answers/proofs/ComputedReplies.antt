@@ -1,4 +1,4 @@
--- SM?GA, SM?GL and SM?KQ in whole requests: the bytes of their answers are what the definition computes. The last is the example of 001 clause 5.3.3. And which key may vend, computed.
+-- SM?GA and SM?KQ in whole requests: the bytes of their answers are what the definition computes. The last is the example of 001 clause 5.3.3. And which key may vend, computed.
 use mathlib.Core.Path.{_≡_, refl}
 use mathlib.Core.Bool.{true, false}
 use mathlib.Core.List.{List, [], _∷_, _++_}
@@ -29,12 +29,12 @@ use Rattle.record_types.specs.KeyRecords.{keyInForm}
 use Rattle.row_types.specs.Lists.{padded, trimmed}
 use Rattle.row_types.specs.Registers.{isVacant, attributeOf, isKeyOf, isUnder, isRegisterSound, isSameKey, freeRegister, filledRegister}
 use Rattle.row_types.specs.Slots.{isZeroSlot, isNamed, isFilledSlot, isSlotSound, isSameSlot, freeSlot, filledSlot}
-use Rattle.row_types.specs.RowReplies.{slotNames, stateText, slotFields, queryFields}
+use Rattle.row_types.specs.RowReplies.{stateText, slotFields, queryFields}
 use Rattle.row_types.specs.Sound.{isOwned, areSound}
 use Rattle.row_types.specs.Supplements.{isIdentityRight, isLoadRequestRight, isWellFormed}
 use Rattle.engine.specs.Requests.{areFieldsOf, recordIn, slotIn}
 use Rattle.engine.specs.Questions.{slotNamed, areCounts, isFilled, questions}
-use Rattle.engine.specs.Answers.{response, refused, listed, answerOf}
+use Rattle.engine.specs.Answers.{response, refused, answerOf}
 use Rattle.engine.specs.Answers as answers
 use Rattle.engine.specs.Words.{Lent, callOf}
 use Rattle.row_types.specs.declared.SlotState.the-variants.{Pending, Loading, Idle}
@@ -48,33 +48,15 @@ use Rattle.case_run.specs.Run.{clock, hand, a, b, printA, printB, cardB, lent}
 abbrev pub replyRows : Lent
 replyRows = lent (filledSlot Pending a printA clock) (filledSlot Idle b printB []) (filledRegister cardB)
 
--- a request, the sequence in which SM?GL lists the slots, and the answer
+-- a request and the answer
 pub record ReplyCase : Type 0 where
   pub request : List ℕ
-  pub sequence : List (List ℕ)
   pub answer : List ℕ
-
--- SM?GL6991: SM!GL00PA~PB~7FFA
-abbrev pub rowByRow : ReplyCase
-rowByRow = record {
-  request = text "SM?GL6991\r";
-  sequence = a ∷ b ∷ [];
-  answer = text "SM!GL00PA~PB~7FFA\r";
-}
-
--- SM?GL6991: SM!GL00PB~PA~8FBE
-abbrev pub turned : ReplyCase
-turned = record {
-  request = text "SM?GL6991\r";
-  sequence = b ∷ a ∷ [];
-  answer = text "SM!GL00PB~PA~8FBE\r";
-}
 
 -- SM?KQPA~B1D9: SM!KQ00PPENDING~PA~P~H~P20260101T000000Z~HAAAAAAAAAAAAAAAA~CB31
 abbrev pub pendingSlot : ReplyCase
 pendingSlot = record {
   request = text "SM?KQPA~B1D9\r";
-  sequence = [];
   answer = text "SM!KQ00PPENDING~PA~P~H~P20260101T000000Z~HAAAAAAAAAAAAAAAA~CB31\r";
 }
 
@@ -82,7 +64,6 @@ pendingSlot = record {
 abbrev pub idleSlot : ReplyCase
 idleSlot = record {
   request = text "SM?KQPB~41D9\r";
-  sequence = [];
   answer = text "SM!KQ00PACTIVE~PB~P~HBBBBBBBBBBBBBBBB~P~H~N1~555C\r";
 }
 
@@ -90,7 +71,6 @@ idleSlot = record {
 abbrev pub filledRegisterShown : ReplyCase
 filledRegisterShown = record {
   request = text "SM?GAN1~B688\r";
-  sequence = [];
   answer = text "SM!GA00PACT20130716T151031Z;BDT20130716T151031Z;CLMFFFFFFFF;CLU0;DKG04;IUT20380119T031407Z;KCV92E101;" ++ text "KEN255;KRN6;KSLB;KTC2;SBMFFFF;SGC0000758825;ULM999999999;VND0;~5EC3\r";
 }
 
@@ -98,20 +78,19 @@ filledRegisterShown = record {
 abbrev pub emptyRegister : ReplyCase
 emptyRegister = record {
   request = text "SM?GAN12~8602\r";
-  sequence = [];
   answer = text "SM!GA22CA00\r";
 }
 
 abbrev pub replyCases : List ReplyCase
-replyCases = rowByRow ∷ turned ∷ pendingSlot ∷ idleSlot ∷ filledRegisterShown ∷ emptyRegister ∷ []
+replyCases = pendingSlot ∷ idleSlot ∷ filledRegisterShown ∷ emptyRegister ∷ []
 
 abbrev pub EachReplied : List ReplyCase → Type 0
 EachReplied [] = Unit {0}
-EachReplied (r ∷ rs) = (response (answerOf (callOf replyRows (hand (r .request)))) (r .sequence) ≡ r .answer) × EachReplied rs
+EachReplied (r ∷ rs) = (response (answerOf (callOf replyRows (hand (r .request)))) ≡ r .answer) × EachReplied rs
 
 pub each-replied : EachReplied replyCases
-unfolding crcBit crcEight crcByte hexDigit sumDigits endsInSum isAlphanumeric areAll isIdentifier isUnpadded isNumber daysIn isDate isTime isDateAndTime timestampOf isTimestamp typed valuesOf contentBytes endsInReturn isWhole isChecked textOf headerOf payloadOf ending framed answered headers commandOf replyBytes bodyOf field isRecord isAlgorithm table nameOf valueOf fits isCard isMet isIncoming identityInForm keyInForm padded trimmed isVacant attributeOf isRegisterSound isSameKey freeRegister isZeroSlot isNamed isFilledSlot isSlotSound isSameSlot freeSlot filledSlot isOwned areSound isIdentityRight isLoadRequestRight isWellFormed areFieldsOf recordIn areCounts questions refused answers.answered listed answerOf isStored isEntryOf inRow filledRegister isOctets isUnder isKeyOf slotIn slotNamed isFilled slotNames stateText slotFields queryFields decDigits decimalBytes
-each-replied = (refl, (refl, (refl, (refl, (refl, (refl, tt))))))
+unfolding crcBit crcEight crcByte hexDigit sumDigits endsInSum isAlphanumeric areAll isIdentifier isUnpadded isNumber daysIn isDate isTime isDateAndTime timestampOf isTimestamp typed valuesOf contentBytes endsInReturn isWhole isChecked textOf headerOf payloadOf ending framed answered headers commandOf replyBytes bodyOf field isRecord isAlgorithm table nameOf valueOf fits isCard isMet isIncoming identityInForm keyInForm padded trimmed isVacant attributeOf isRegisterSound isSameKey freeRegister isZeroSlot isNamed isFilledSlot isSlotSound isSameSlot freeSlot filledSlot isOwned areSound isIdentityRight isLoadRequestRight isWellFormed areFieldsOf recordIn areCounts questions refused answers.answered answerOf isStored isEntryOf inRow filledRegister isOctets isUnder isKeyOf slotIn slotNamed isFilled stateText slotFields queryFields decDigits decimalBytes
+each-replied = (refl, (refl, (refl, (refl, tt))))
 
 -- which key may vend: that of register 1, under B, where B is IDLE, and not while B is PENDING or LOADING; no register that is free, 0 or beyond the rows
 abbrev tablesWith : SlotRow → Tables

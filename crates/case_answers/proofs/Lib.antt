@@ -2,8 +2,8 @@ pub mod Accepted
 pub mod CardRefused
 pub mod ComputedRefusals
 pub mod ComputedReplies
+pub mod ComputedLists
 pub mod StoredCard
 pub mod Numbers
 pub mod Statuses
-pub mod Listed
 pub mod Vending

@@ -1,7 +1,7 @@
 -- What each answer replies: nothing for 1 to 4; the refusal's status and fields under GL!ER for 5 to 7, and under the request's own header from 8 on; and 00 exactly on acceptance.
 use mathlib.Core.Path.{_≡_, refl, ap}
 use mathlib.Core.Bool.{Bool, true, false, cond, _&&_, _||_}
-use mathlib.Core.List.{List, [], _∷_}
+use mathlib.Core.List.{List, []}
 use mathlib.Core.Option.{Option, none, some}
 use Prim.Native.Nat.{ℕ, _-_, _≤_}
 use native.Mathlib.Omega.{arith}
@@ -15,12 +15,12 @@ use Rattle.field_values.specs.Values.{Value}
 use Rattle.message_commands.specs.declared.Command.{Command}
 use Rattle.message_commands.specs.declared.Command.the-variants.{RS, KC, KR, KL, KF, KX, KD, GA, GL, KQ, Unknown}
 use Rattle.message_frames.specs.Frames.{headerOf}
-use Rattle.message_replies.specs.Responses.{Reply, replyTo, statusOf}
+use Rattle.message_replies.specs.Responses.{replyTo, statusOf}
 use Rattle.message_replies.proofs.ResponseLaws.{reply-status, answered-five}
 use Rattle.engine.specs.Refusals.{Header, general, own, RefusalEntry, extended, km, sm3b, refusal}
 use Rattle.engine.specs.Requests.{commandIn, fieldsIn, recordIn, slotIn}
 use Rattle.engine.specs.Questions.{Call}
-use Rattle.engine.specs.Answers.{response, responseOf, accepted, errorHeader, replyUnder, answered, listed, effect, refused, answerOf}
+use Rattle.engine.specs.Answers.{response, responseOf, accepted, errorHeader, replyUnder, answered, effect, refused, answerOf}
 use Rattle.engine.specs.Words.{isAccepted}
 use Rattle.engine.specs.declared.Refusal.{Refusal}
 use Rattle.engine.specs.declared.Refusal.the-variants.{RowCounts, ShortBuffer, UnsoundRows, BadSupplement, BadFrame, BadChecksum, UnknownHeader, BadFields, BadRecord, BadForm, Expired, UnknownSlot, NoFreeSlot, WrongState, OtherModule, OtherFingerprint, OtherTvp, OtherTag, CheckFailed, NoFreeRegister, EmptyRegister}
@@ -79,18 +79,18 @@ status-two : (r : Refusal) → 5 ≤ numberOf r → length (refusal r .status) �
 status-two r h = eqb-true (length (refusal r .status)) 2 (rw (lt-leb (numberOf r) 4 h) at (every-refusal (λ (q : Refusal). leb (numberOf q) 4 || eqb (length (refusal q .status)) 2) refl r))
 
 -- A REFUSAL
-module _ (x : Call) (r : Refusal) (e : answerOf x .outcome ≡ Refused r) (names : List (List ℕ)) where
-  reply-is : answerOf x .reply names ≡ replyUnder (x .request) (headerFor (numberOf r)) (refusal r)
+module _ (x : Call) (r : Refusal) (e : answerOf x .outcome ≡ Refused r) where
+  reply-is : answerOf x .reply ≡ replyUnder (x .request) (headerFor (numberOf r)) (refusal r)
   unfolding answerOf refused
   reply-is = rw (refused-by x r e, header-by-number r) refl
 
-  pub none-written : numberOf r ≤ 4 → answerOf x .reply names ≡ none
+  pub none-written : numberOf r ≤ 4 → answerOf x .reply ≡ none
   none-written h = rw (reply-is, le-leb (numberOf r) 4 h) refl
 
-  pub under-error-header : 5 ≤ numberOf r → numberOf r ≤ 7 → answerOf x .reply names ≡ some (record { header = errorHeader; status = refusal r .status; fields = refusal r .fields })
+  pub under-error-header : 5 ≤ numberOf r → numberOf r ≤ 7 → answerOf x .reply ≡ some (record { header = errorHeader; status = refusal r .status; fields = refusal r .fields })
   under-error-header l h = rw (reply-is, lt-leb (numberOf r) 4 l, le-leb (numberOf r) 7 h) refl
 
-  pub under-own-header : 8 ≤ numberOf r → answerOf x .reply names ≡ some (replyTo (headerOf (x .request)) (refusal r .status) (refusal r .fields))
+  pub under-own-header : 8 ≤ numberOf r → answerOf x .reply ≡ some (replyTo (headerOf (x .request)) (refusal r .status) (refusal r .fields))
   under-own-header l = rw (reply-is, lt-leb (numberOf r) 4 (omega (arith, l)), lt-leb (numberOf r) 7 l) refl
 
   -- by the group of the question that was the first no: only after a whole message is the header the request's own
@@ -102,7 +102,7 @@ module _ (x : Call) (r : Refusal) (e : answerOf x .outcome ≡ Refused r) (names
   status-from (some own) q n l (of-later t y w) =
       reply-status (replyTo (headerOf (x .request)) (refusal r .status) (refusal r .fields)) (answered-five (headerOf (x .request)) (header-five (x .request) (y .0))) l
 
-  pub status-replied : 5 ≤ numberOf r → statusOf (response (answerOf x) names) ≡ refusal r .status
+  pub status-replied : 5 ≤ numberOf r → statusOf (response (answerOf x)) ≡ refusal r .status
   status-replied l =
       let n : isUnwritten (headerFor (numberOf r)) ≡ false = written (leb (numberOf r) 7) in
       rw reply-is (status-from (headerFor (numberOf r)) (header-by-number r) n (status-two r l) (refusal-group x r (refused-by x r e)))
@@ -115,42 +115,41 @@ module _ (x : Call) (r : Refusal) (e : answerOf x .outcome ≡ Refused r) (names
 yes-status : (x : Call) → length (headerOf (x .request)) ≡ 5 → (fields : List Value) → statusOf (responseOf (some (replyTo (headerOf (x .request)) accepted fields))) ≡ accepted
 yes-status x l fields = reply-status (replyTo (headerOf (x .request)) accepted fields) (answered-five (headerOf (x .request)) l) refl
 
-effect-status : (names : List (List ℕ)) (x : Call) → length (headerOf (x .request)) ≡ 5 → (c : Command) (vs : List Value) (r s : List ℕ) → statusOf (response (effect x c vs r s) names) ≡ accepted
-unfolding answered listed
-effect-status names x l RS vs r s = yes-status x l _
-effect-status names x l KC vs r s = yes-status x l _
-effect-status names x l KR vs r s = yes-status x l _
-effect-status names x l KL vs r s = yes-status x l _
-effect-status names x l KF vs r s = yes-status x l _
-effect-status names x l KX vs r s = yes-status x l _
-effect-status names x l KD vs r s = yes-status x l _
-effect-status names x l GA vs r s = yes-status x l _
-effect-status names x l GL vs r s = yes-status x l _
-effect-status names x l KQ vs r s = yes-status x l _
-effect-status names x l Unknown vs r s = yes-status x l _
+effect-status : (x : Call) → length (headerOf (x .request)) ≡ 5 → (c : Command) (vs : List Value) (r s : List ℕ) → statusOf (response (effect x c vs r s)) ≡ accepted
+unfolding answered
+effect-status x l RS vs r s = yes-status x l _
+effect-status x l KC vs r s = yes-status x l _
+effect-status x l KR vs r s = yes-status x l _
+effect-status x l KL vs r s = yes-status x l _
+effect-status x l KF vs r s = yes-status x l _
+effect-status x l KX vs r s = yes-status x l _
+effect-status x l KD vs r s = yes-status x l _
+effect-status x l GA vs r s = yes-status x l _
+effect-status x l GL vs r s = yes-status x l _
+effect-status x l KQ vs r s = yes-status x l _
+effect-status x l Unknown vs r s = yes-status x l _
 
--- whatever sequence SM?GL's list has
-module _ (x : Call) (names : List (List ℕ)) where
-  pub accepted-status : isYes (answerOf x .outcome) ≡ true → statusOf (response (answerOf x) names) ≡ accepted
+module _ (x : Call) where
+  pub accepted-status : isYes (answerOf x .outcome) ≡ true → statusOf (response (answerOf x)) ≡ accepted
   unfolding answerOf
   accepted-status y =
       let c = commandIn (x .request) in
       let vs = fieldsIn (x .request) in
       let n = none-first x y in
-      rw n (effect-status names x (header-five (x .request) (yes-of x n .whole)) c vs (recordIn c vs) (slotIn c vs))
+      rw n (effect-status x (header-five (x .request) (yes-of x n .whole)) c vs (recordIn c vs) (slotIn c vs))
 
   -- an answer reads as accepted exactly where its outcome is acceptance
-  pub accepted-read : isAccepted (response (answerOf x) names) ≡ isYes (answerOf x .outcome)
+  pub accepted-read : isAccepted (response (answerOf x)) ≡ isYes (answerOf x .outcome)
   unfolding isAccepted
   accepted-read = go (answerOf x .outcome) refl
     where
-      yes : isYes (answerOf x .outcome) ≡ true → isAccepted (response (answerOf x) names) ≡ true
+      yes : isYes (answerOf x .outcome) ≡ true → isAccepted (response (answerOf x)) ≡ true
       yes y = rw (accepted-status y) refl
 
-      no : (r : Refusal) → answerOf x .outcome ≡ Refused r → isAccepted (response (answerOf x) names) ≡ false
-      no r e = rw (reply-is x r e names, ← header-by-number r) (refusal-said x r (refused-by x r e))
+      no : (r : Refusal) → answerOf x .outcome ≡ Refused r → isAccepted (response (answerOf x)) ≡ false
+      no r e = rw (reply-is x r e, ← header-by-number r) (refusal-said x r (refused-by x r e))
 
-      go : (o : Outcome) → answerOf x .outcome ≡ o → isAccepted (response (answerOf x) names) ≡ isYes o
+      go : (o : Outcome) → answerOf x .outcome ≡ o → isAccepted (response (answerOf x)) ≡ isYes o
       go (Accepted a) e = yes (rw e refl)
       go Done e = yes (rw e refl)
       go (Refused r) e = no r e

@@ -167,14 +167,14 @@ module _ (x : Call) (c : commandIn (x .request) ≡ KL) (y : isYes (answerOf x .
   shown-card = rw row-is (stored-measured card (is-card x vs yes) (loadValues (x .supplement .check) slot) refl (is-check x vs yes) (is-name x vs yes) refl)
 
   -- the reply's register is that place, counted from 1, and its card the row's, where the count of registers is the rows'
-  module _ (n : x .registerCount ≡ length (x .registers)) (names : List (List ℕ)) where
-    says : fieldsOf (response (answerOf x) names) ≡ loadFields x vs yes
-    says = rw (does, kl-reply x vs yes names) (load-reads x vs yes n)
+  module _ (n : x .registerCount ≡ length (x .registers)) where
+    says : fieldsOf (response (answerOf x)) ≡ loadFields x vs yes
+    says = rw (does, kl-reply x vs yes) (load-reads x vs yes n)
 
-    pub answered-register : registerIn (fieldsOf (response (answerOf x) names)) ≡ place + 1
+    pub answered-register : registerIn (fieldsOf (response (answerOf x))) ≡ place + 1
     unfolding cardPlace
     answered-register = rw (says, register-at x vs yes .is) refl
 
-    pub answered-card : row .card ≡ inRow (secondText (fieldsOf (response (answerOf x) names)))
+    pub answered-card : row .card ≡ inRow (secondText (fieldsOf (response (answerOf x))))
     unfolding filledRegister
     answered-card = rw (says, row-is) refl

@@ -35,7 +35,7 @@ supplement =
 
 -- a request with that supplement; its buffer is full of the character 0, so that what lies beyond an answer says 00
 abbrev pub hand : List ℕ → Input
-hand request = record { request = request; supplement = supplement; buffer = replicate 1024 (code "0"); sequence = [] }
+hand request = record { request = request; supplement = supplement; buffer = replicate 1024 (code "0") }
 
 abbrev pub startA : Input
 startA =

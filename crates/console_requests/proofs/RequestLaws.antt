@@ -69,10 +69,9 @@ module _ (c : Console) (q r e : List ℕ) (n : ℕ) (y : Reply) (t : Tables) (p 
 
   pub answer-said : (number : ℕ) (a b : List ℕ) (i : ℕ) → Wrote a 0 (answerLine number (y .outcome) (y .state) (take (y .length) (e ++ drop n r))) b i → SaysAnswer c number q a b i
   answer-said number a b i w =
-      let names = p .written .0 in
-      let v : Wrote a 0 (outcomeLine number (given .outcome) (response given names)) b i =
-      rw (← p .outcome-is, ← p .state-is, ← whole (response given names) (take n r) r n (y .length) (p .written .1 .1 .0), ← p .written .1 .1 .1) w in
-      (names, (p .written .1 .0, rw (← lent) v))
+      let v : Wrote a 0 (outcomeLine number (given .outcome) (response given)) b i =
+      rw (← p .outcome-is, ← p .state-is, ← whole (response given) (take n r) r n (y .length) (p .written .0), ← p .written .1) w in
+      rw (← lent) v
 
 -- send: a text in 2,048 bytes, closed
 module _ (r d e text : List ℕ) (n m : ℕ) (z : 2048 ≡ length r) (h : length text ≤ 2043) (w : Wrote r 0 text d n) (v : Wrote d n (ending (take n d)) e m) (g : m ≡ n + 5) where

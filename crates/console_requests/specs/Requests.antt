@@ -4,8 +4,6 @@ use mathlib.Core.Bool.{cond}
 use mathlib.Core.List.{List}
 use lib.Dec.{leb}
 use Rattle.byte_strings.specs.Wrote.{Wrote}
-use Rattle.row_types.specs.Places.{slotRows}
-use Rattle.row_types.specs.RowReplies.{InSomeSequence}
 use Rattle.engine.specs.Answers.{Answer, response, answerOf}
 use Rattle.engine.specs.Calls.{callIn, tablesAfter}
 use Rattle.engine.specs.Outcomes.{outcomeNumber}
@@ -31,11 +29,7 @@ answeredBy c request = withTables (tablesAfter (c .tables) (answerBy c request))
 abbrev pub outcomeLine : ℕ → Outcome → List ℕ → List ℕ
 outcomeLine n o r = answerLine n (outcomeNumber o) (stateByte o) r
 
--- the line of a request's answer is printed; SM?GL's list is in some sequence
+-- the line of a request's answer is printed
 abbrev pub SaysAnswer : Console → ℕ → List ℕ → List ℕ → List ℕ → ℕ → Type 0
 SaysAnswer c number request before now n =
-    InSomeSequence (slotRows (c .tables))
-    (λ (names : List (List ℕ)).
-    Wrote before 0
-    (outcomeLine number (answerBy c request .outcome) (response (answerBy c request) names))
-    now n)
+    Wrote before 0 (outcomeLine number (answerBy c request .outcome) (response (answerBy c request))) now n

@@ -1,2 +1,3 @@
 pub mod OneCall
 pub mod Lists
+pub mod Screens

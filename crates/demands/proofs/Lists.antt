@@ -2,7 +2,7 @@
 use Prim.Native.Nat.{ℕ, _≤_}
 use mathlib.Core.Path.{_≡_, refl, sym, ap, subst, _∙_}
 use mathlib.Core.Bool.{Bool, true, false}
-use mathlib.Core.List.{List, [], _∷_, map, Perm, Perm·refl}
+use mathlib.Core.List.{List, [], _∷_, map}
 use mathlib.Core.Option.{Option, none, some}
 use native.Mathlib.Omega.{arith}
 use lib.Dec.{leb}
@@ -14,7 +14,6 @@ use Rattle.message_replies.specs.Responses.{Reply, replyBytes}
 use Rattle.history.specs.History.{finally, trace}
 use Rattle.history.specs.Model.{Item}
 use Rattle.history.specs.Demand3.{Demand3}
-use Rattle.row_types.specs.RowReplies.{slotNames}
 use Rattle.engine.specs.Questions.{Call, areCounts, questions}
 use Rattle.engine.specs.Answers.{Answer, response, responseOf, bufferAfter, refused, answerOf}
 use Rattle.engine.specs.Outcomes.{outcomeNumber}
@@ -22,17 +21,13 @@ use Rattle.engine.specs.Words.{Lent, Input, callOf, tablesOf, itemOf, itemAt, r
 use Rattle.engine.proofs.ReadsBack.{reads-back}
 use Rattle.engine.proofs.Demand3 as engine
 use Rattle.entry_contracts.specs.Numbers.{stateByte}
-use Rattle.entry_contracts.specs.Handles.{Run, Handles, inputIn, answerIn}
-use Rattle.demands.specs.Demands.{Runs, itemIn, HoldsOfLists, plain, HasRuns}
+use Rattle.entry_contracts.specs.Handles.{Run, Handles, inputIn}
+use Rattle.demands.specs.Demands.{Runs, itemIn, HoldsOfLists, HasRuns}
 
--- what was handed in, with the sequence that SM?GL's list had
-abbrev sequenced : (t : Lent) (r : Run) (u : Lent) → Handles t r u → Input
-sequenced t r u h = record { request = r .request; supplement = r .supplement; buffer = r .before; sequence = h .written .0 }
+same-item : (t : Lent) (r : Run) (u : Lent) → Handles t r u → itemIn r ≡ itemAt t (inputIn r)
+same-item t r u h = λ j. itemOf (r .request) (take (h .written .0 j) (h .written .1 j))
 
-same-item : (t : Lent) (r : Run) (u : Lent) (h : Handles t r u) → itemIn r ≡ itemAt t (sequenced t r u h)
-same-item t r u h = λ j. itemOf (r .request) (take (h .written .1 .1 .0 j) (h .written .1 .1 .1 j))
-
-same-rows : (t : Lent) (r : Run) (u : Lent) (h : Handles t r u) → u ≡ rowsAfter t (sequenced t r u h)
+same-rows : (t : Lent) (r : Run) (u : Lent) → Handles t r u → u ≡ rowsAfter t (inputIn r)
 same-rows t r u h = λ j. record { slots = h .slots-are j; registers = h .registers-are j }
 
 -- the calls are a list of which demand 3 is proved
@@ -48,7 +43,7 @@ same t (r ∷ rs) w m =
     let u = m .0 in
     let h = m .1 .0 in
     let k = same u rs w (m .1 .1) in
-    let e = sequenced t r u h in
+    let e = inputIn r in
     let n = same-rows t r u h in
     let tail : map itemIn rs ≡ trace rowsAfter itemAt (rowsAfter t e) (k .calls) = k .items ∙ ap (λ (l : Lent). trace rowsAfter itemAt l (k .calls)) n in
     record {
@@ -68,33 +63,32 @@ unfolding isWhole
 whole-short s w = leb-true (length s) 1024 (and-first (leb (length s) 1024) (endsInReturn s) (and-second (leb 10 (length s)) _ w))
 
 -- A CALL FOR WHATEVER IS HANDED IN. A buffer that is too short is not written to, and else a response fits
-module _ (x : Call) (names : List (List ℕ)) where
-  short-unwritten : leb 1024 (x .room) ≡ false → answerOf x .reply names ≡ none
+module _ (x : Call) where
+  short-unwritten : leb 1024 (x .room) ≡ false → answerOf x .reply ≡ none
   unfolding answerOf questions refused
   short-unwritten o = go (areCounts (x .slotCount) (x .registerCount)) refl
     where
-      go : (b : Bool) → areCounts (x .slotCount) (x .registerCount) ≡ b → answerOf x .reply names ≡ none
+      go : (b : Bool) → areCounts (x .slotCount) (x .registerCount) ≡ b → answerOf x .reply ≡ none
       go true e = rw (e, o) refl
       go false e = rw e refl
 
-  response-fits : x .slotCount ≡ length (x .slots) → x .registerCount ≡ length (x .registers) → Perm names (slotNames (x .slots)) → length (response (answerOf x) names) ≤ x .room
-  response-fits m n p = go (answerOf x .reply names) refl (leb 1024 (x .room)) refl
+  response-fits : x .slotCount ≡ length (x .slots) → x .registerCount ≡ length (x .registers) → length (response (answerOf x)) ≤ x .room
+  response-fits m n = go (answerOf x .reply) refl (leb 1024 (x .room)) refl
     where
-      go : (o : Option Reply) → answerOf x .reply names ≡ o → (b : Bool) → leb 1024 (x .room) ≡ b → length (responseOf o) ≤ x .room
+      go : (o : Option Reply) → answerOf x .reply ≡ o → (b : Bool) → leb 1024 (x .room) ≡ b → length (responseOf o) ≤ x .room
       go none e b w = omega arith
       go (some r) e true w =
-          let whole : isWhole (replyBytes r) ≡ true = subst (λ (o : Option Reply). isWhole (responseOf o) ≡ true) e (reads-back x m n names p r e .whole) in
+          let whole : isWhole (replyBytes r) ≡ true = subst (λ (o : Option Reply). isWhole (responseOf o) ≡ true) e (reads-back x m n r e .whole) in
           omega (arith, whole-short (replyBytes r) whole, leb-true 1024 (x .room) w)
       go (some r) e false w = nope (let z = sym e ∙ short-unwritten w in cc)
 
 module _ (rows : Lent) (e : Input) where
   abbrev answer : Answer
-  answer = answerOf (callOf rows (plain e))
+  answer = answerOf (callOf rows e)
 
   abbrev bytes : List ℕ
-  bytes = response answer (slotNames (rows .slots))
+  bytes = response answer
 
-  -- SM?GL's list row by row
   abbrev run : Run
   run = record {
     request = e .request;
@@ -113,8 +107,8 @@ module _ (rows : Lent) (e : Input) where
   handles = record {
     outcome-is = refl;
     state-is = refl;
-    written = (slotNames (rows .slots), (Perm·refl (slotNames (rows .slots)), (refl, refl)));
-    fits = response-fits (callOf rows (plain e)) (slotNames (rows .slots)) refl refl (Perm·refl (slotNames (rows .slots)));
+    written = (refl, refl);
+    fits = response-fits (callOf rows e) refl refl;
     slots-are = refl;
     registers-are = refl;
   }
@@ -127,5 +121,5 @@ every-list rows (e ∷ es) =
       runs = run rows e ∷ k .runs;
       left = k .left;
       go = (left rows e, (handles rows e, k .go));
-      given = ap (λ (l : List Input). plain e ∷ l) (k .given);
+      given = ap (λ (l : List Input). e ∷ l) (k .given);
     }

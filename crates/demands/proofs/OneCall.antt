@@ -1,9 +1,9 @@
 -- Demands 1 and 2 follow from what `diminurel_handle` promises of a call.
-use Prim.Native.Nat.{ℕ, _+_, _≤_}
+use Prim.Native.Nat.{ℕ, _≤_}
 use mathlib.Core.Path.{_≡_, refl, sym, ap, subst, _∙_}
-use mathlib.Core.Logic.{_↔_, _≢_}
+use mathlib.Core.Logic.{_≢_}
 use mathlib.Core.Bool.{true}
-use mathlib.Core.List.{List, [], _∷_, _++_}
+use mathlib.Core.List.{List, []}
 use mathlib.Core.Option.{Option, none, some}
 use lib.ListN.{length, take, drop}
 use native.Mathlib.Omega.{arith}
@@ -17,7 +17,7 @@ use Rattle.row_types.specs.declared.SlotState.the-variants.{Free, Pending, Load
 use Rattle.engine.specs.Refusals.{refusal}
 use Rattle.engine.specs.Requests.{commandIn}
 use Rattle.engine.specs.Questions.{Call, slotNamed, questions, firstNo}
-use Rattle.engine.specs.Answers.{Answer, response, responseOf, bufferAfter, refusalReply, refused, answerTo, answerOf}
+use Rattle.engine.specs.Answers.{response, responseOf, bufferAfter, refusalReply, refused, answerOf}
 use Rattle.engine.specs.Outcomes.{outcomeNumber}
 use Rattle.engine.specs.Words.{Lent, callOf}
 use Rattle.engine.specs.declared.Refusal.{Refusal}
@@ -29,7 +29,7 @@ use Rattle.engine.proofs.SlotStates.{isSession, state-left, state-carried}
 use Rattle.engine.proofs.AnswerLaws.{first-no-decides, refused-by, refused-keeps, no-reply-exactly}
 use Rattle.case_answers.proofs.Numbers.{one-number, number-range, answer-zero, answer-within}
 use Rattle.entry_contracts.specs.Numbers.{stateByte}
-use Rattle.entry_contracts.specs.Handles.{Run, Handles, inputIn, answerIn}
+use Rattle.entry_contracts.specs.Handles.{Run, Handles, inputIn}
 use Rattle.demands.specs.Demands.{responseIn, SaysReply, slotNameIn, Demand1, Demand2}
 
 -- a state's number is not 255
@@ -43,31 +43,28 @@ module _ (rows : Lent) (run : Run) (left : Lent) (h : Handles rows run left) whe
   abbrev call : Call
   call = callOf rows (inputIn run)
 
-  abbrev names : List (List ℕ)
-  names = h .written .0
-
   abbrev bytes : List ℕ
-  bytes = response (answerOf call) names
+  bytes = response (answerOf call)
 
   size-is : run .size ≡ length bytes
-  size-is = h .written .1 .1 .0
+  size-is = h .written .0
 
   after-is : run .after ≡ bufferAfter bytes (run .before)
-  after-is = h .written .1 .1 .1
+  after-is = h .written .1
 
   -- what is read of the buffer is the response, and what lies beyond is as before
-  response-is : responseIn run ≡ bytes
+  pub response-is : responseIn run ≡ bytes
   response-is = (λ j. take (size-is j) (after-is j)) ∙ take-at bytes (drop (length bytes) (run .before)) (length bytes) refl
 
   rest-is : drop (run .size) (run .after) ≡ drop (run .size) (run .before)
   rest-is = (λ j. drop (size-is j) (after-is j)) ∙ drop-at bytes (drop (length bytes) (run .before)) (length bytes) refl ∙ ap (λ (n : ℕ). drop n (run .before)) (sym size-is)
 
-  says : SaysReply (responseIn run) (answerOf call .reply names)
-  says = subst (λ (s : List ℕ). SaysReply s (answerOf call .reply names)) (sym response-is) (go (answerOf call .reply names) refl)
+  says : SaysReply (responseIn run) (answerOf call .reply)
+  says = subst (λ (s : List ℕ). SaysReply s (answerOf call .reply)) (sym response-is) (go (answerOf call .reply) refl)
     where
-      go : (o : Option Reply) → answerOf call .reply names ≡ o → SaysReply (responseOf o) o
+      go : (o : Option Reply) → answerOf call .reply ≡ o → SaysReply (responseOf o) o
       go none e = refl
-      go (some r) e = subst (λ (o : Option Reply). Says (responseOf o) r) e (reads-back call refl refl names (h .written .1 .0) r e)
+      go (some r) e = subst (λ (o : Option Reply). Says (responseOf o) r) e (reads-back call refl refl r e)
 
   -- a refusal's number is that of its outcome alone
   numbered : (r : Refusal) → run .outcome ≡ refusal r .number → answerOf call .outcome ≡ Refused r
@@ -81,7 +78,7 @@ module _ (rows : Lent) (run : Run) (left : Lent) (h : Handles rows run left) whe
       go Done w = absurd (none-is (sym (ap outcomeNumber w) ∙ sym (h .outcome-is) ∙ e))
       go (Refused q) w = ap Refused (one-number q r (sym (ap outcomeNumber w) ∙ sym (h .outcome-is) ∙ e))
 
-  refusal-is : (r : Refusal) → firstNo (questions call) ≡ some r → answerOf call .reply names ≡ refusalReply (run .request) r
+  refusal-is : (r : Refusal) → firstNo (questions call) ≡ some r → answerOf call .reply ≡ refusalReply (run .request) r
   unfolding answerOf refused
   refusal-is r e = rw e refl
 
@@ -94,7 +91,7 @@ module _ (rows : Lent) (run : Run) (left : Lent) (h : Handles rows run left) whe
       go (Refused q) e = let k = refused-keeps call q e in λ j. record { slots = (h .slots-are ∙ k .0) j; registers = (h .registers-are ∙ k .1) j }
 
   none-written : 1 ≤ run .outcome → run .outcome ≤ 4 → bytes ≡ []
-  none-written l m = ap responseOf (no-reply-exactly call names .1 (subst (λ (n : ℕ). (1 ≤ n) × (n ≤ 4)) (h .outcome-is) (l, m)))
+  none-written l m = ap responseOf (no-reply-exactly call .1 (subst (λ (n : ℕ). (1 ≤ n) × (n ≤ 4)) (h .outcome-is) (l, m)))
 
   pub demand1 : Demand1 rows run left
   demand1 = record {
@@ -106,7 +103,7 @@ module _ (rows : Lent) (run : Run) (left : Lent) (h : Handles rows run left) whe
     beyond = rest-is;
   }
 
-  first-yes : run .outcome ≡ 0 → firstNo (questions call) ≡ none
+  pub first-yes : run .outcome ≡ 0 → firstNo (questions call) ≡ none
   first-yes z = go (firstNo (questions call)) refl
     where
       go : (o : Option Refusal) → firstNo (questions call) ≡ o → o ≡ none
@@ -149,7 +146,7 @@ module _ (rows : Lent) (run : Run) (left : Lent) (h : Handles rows run left) whe
   demand2 = record {
     accepted = (first-yes, λ e. h .outcome-is ∙ answer-zero call .1 (all-yes (questions call) e));
     refused = λ r. (λ e. refused-by call r (numbered r e), λ e. h .outcome-is ∙ ap outcomeNumber (first-no-decides call r e));
-    replied = (names, (h .written .1 .0, says));
+    replied = says;
     session = (is-session, session-is);
     state-left = left-state;
   }

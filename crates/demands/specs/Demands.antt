@@ -9,7 +9,6 @@ use mathlib.Core.Option.{Option, none, some}
 use lib.ListN.{length, take, drop}
 use Rattle.message_replies.specs.Responses.{Reply, Says}
 use Rattle.message_commands.specs.declared.Command.the-variants.{KC, KR, KL, KF, KX}
-use Rattle.row_types.specs.RowReplies.{InSomeSequence}
 use Rattle.history.specs.Model.{Item}
 use Rattle.history.specs.Demand3.{Demand3}
 use Rattle.engine.specs.Refusals.{refusal}
@@ -56,9 +55,8 @@ pub record Demand2 (rows : Lent) (run : Run) (left : Lent) : Type 0 where
   -- and refused exactly by the first no
   pub refused : (r : Refusal)
       → (run .outcome ≡ refusal r .number) ↔ (firstNo (questions (callOf rows (inputIn run))) ≡ some r)
-  -- the response reads back as just the reply that the standards want, SM?GL's list in some sequence of the slots
-  pub replied : InSomeSequence (rows .slots)
-      (λ (names : List (List ℕ)). SaysReply (responseIn run) (answerIn rows run .reply names))
+  -- the response reads back as just the reply that the standards want
+  pub replied : SaysReply (responseIn run) (answerIn rows run .reply)
   -- a slot state is answered (255 is none) exactly to an accepted session command,
   pub session : (run .state ≢ 255)
       ↔ ((run .outcome ≡ 0) × (isAmong (commandIn (run .request)) (KC ∷ KR ∷ KL ∷ KF ∷ KX ∷ []) ≡ true))
@@ -82,13 +80,9 @@ HoldsOfLists =
     → Runs (emptyRows slot-count register-count) runs left
     → Demand3 (map itemIn runs) (tablesOf (left .slots) (left .registers))
 
--- what is handed in, without the sequence of SM?GL's list
-abbrev pub plain : Input → Input
-plain e = record { request = e .request; supplement = e .supplement; buffer = e .buffer; sequence = [] }
-
 -- there are calls as promised for whatever is handed in, over whatever rows: no demand holds for want of one
 pub record HasRuns (rows : Lent) (inputs : List Input) : Type 0 where
   pub runs : List Run
   pub left : Lent
   pub go : Runs rows runs left
-  pub given : map inputIn runs ≡ map plain inputs
+  pub given : map inputIn runs ≡ inputs

@@ -21,7 +21,7 @@ use Rattle.row_types.specs.Registers.{isVacant, isKeyOf}
 use Rattle.engine.specs.Refusals.{Header, general, own, RefusalEntry, refusal}
 use Rattle.engine.specs.Requests.{isAmong, commandIn, fieldsIn, recordIn, slotIn, cardIn}
 use Rattle.engine.specs.Questions.{Call, Question, _otherwise_, asked, isPlace, placeElse, keyPlace, vacantPlace, storePlace, groupIn, revisionIn, questions, firstNo}
-use Rattle.engine.specs.Answers.{Answer, response, responseOf, replyUnder, refusalReply, answered, listed, effect, refused, answerTo, answerOf}
+use Rattle.engine.specs.Answers.{Answer, response, responseOf, replyUnder, refusalReply, answered, effect, refused, answerTo, answerOf}
 use Rattle.engine.specs.Outcomes.{outcomeNumber}
 use Rattle.engine.specs.declared.Refusal.{Refusal}
 use Rattle.engine.specs.declared.Refusal.the-variants.{NoFreeRegister}
@@ -40,7 +40,7 @@ yes-all [] y = refl
 yes-all ((b otherwise r) ∷ qs) y = rw (y .0) (yes-all qs (y .1))
 
 effect-yes : (x : Call) (c : Command) (vs : List Value) (r s : List ℕ) → isYes (effect x c vs r s .outcome) ≡ true
-unfolding answered listed
+unfolding answered
 effect-yes x RS vs r s = refl
 effect-yes x KC vs r s = refl
 effect-yes x KR vs r s = refl
@@ -101,19 +101,19 @@ abbrev isReply : Option Reply → Bool
 isReply none = false
 isReply (some r) = true
 
-effect-replies : (x : Call) (c : Command) (vs : List Value) (r s : List ℕ) (names : List (List ℕ)) → isReply (effect x c vs r s .reply names) ≡ true
-unfolding answered listed
-effect-replies x RS vs r s names = refl
-effect-replies x KC vs r s names = refl
-effect-replies x KR vs r s names = refl
-effect-replies x KL vs r s names = refl
-effect-replies x KF vs r s names = refl
-effect-replies x KX vs r s names = refl
-effect-replies x KD vs r s names = refl
-effect-replies x GA vs r s names = refl
-effect-replies x GL vs r s names = refl
-effect-replies x KQ vs r s names = refl
-effect-replies x Unknown vs r s names = refl
+effect-replies : (x : Call) (c : Command) (vs : List Value) (r s : List ℕ) → isReply (effect x c vs r s .reply) ≡ true
+unfolding answered
+effect-replies x RS vs r s = refl
+effect-replies x KC vs r s = refl
+effect-replies x KR vs r s = refl
+effect-replies x KL vs r s = refl
+effect-replies x KF vs r s = refl
+effect-replies x KX vs r s = refl
+effect-replies x KD vs r s = refl
+effect-replies x GA vs r s = refl
+effect-replies x GL vs r s = refl
+effect-replies x KQ vs r s = refl
+effect-replies x Unknown vs r s = refl
 
 -- the refusal of every question has a number above 0, and a header just where it is above 4: computed
 abbrev isNumbered : Refusal → Bool
@@ -156,25 +156,25 @@ yes-zero (Accepted a) y = refl
 yes-zero Done y = refl
 yes-zero (Refused r) y = nope (cc)
 
-module _ (x : Call) (names : List (List ℕ)) where
+module _ (x : Call) where
   abbrev answer : Option Refusal → Answer
   answer o = answerTo x o (commandIn (x .request)) (fieldsIn (x .request))
 
   -- an answer has no reply exactly where its outcome is one of refusals 1 to 4,
-  pub no-reply-exactly : (answerOf x .reply names ≡ none) ↔ IsUnwritten (outcomeNumber (answerOf x .outcome))
+  pub no-reply-exactly : (answerOf x .reply ≡ none) ↔ IsUnwritten (outcomeNumber (answerOf x .outcome))
   unfolding answerOf refused
   no-reply-exactly = go (firstNo (questions x)) refl
     where
       done : (a : Option Reply) (o : Outcome) → isReply a ≡ true → isYes o ≡ true → (a ≡ none) ↔ IsUnwritten (outcomeNumber o)
       done a o i y = (λ w. nope (let z = rw w at i in cc), λ w. absurd (omega (arith, w .0, yes-zero o y)))
 
-      go : (o : Option Refusal) → firstNo (questions x) ≡ o → (answer o .reply names ≡ none) ↔ IsUnwritten (outcomeNumber (answer o .outcome))
+      go : (o : Option Refusal) → firstNo (questions x) ≡ o → (answer o .reply ≡ none) ↔ IsUnwritten (outcomeNumber (answer o .outcome))
       go (some r) e = refusal-unwritten (x .request) r (no-listed isNumbered (questions x) r (all-numbered x) e)
-      go none e = done (answer none .reply names) (answer none .outcome) (effect-replies x (commandIn (x .request)) (fieldsIn (x .request)) _ _ names) (effect-yes x (commandIn (x .request)) (fieldsIn (x .request)) _ _)
+      go none e = done (answer none .reply) (answer none .outcome) (effect-replies x (commandIn (x .request)) (fieldsIn (x .request)) _ _) (effect-yes x (commandIn (x .request)) (fieldsIn (x .request)) _ _)
 
   -- and nothing is written exactly there
-  pub no-bytes-exactly : (length (response (answerOf x) names) ≡ 0) ↔ IsUnwritten (outcomeNumber (answerOf x .outcome))
-  no-bytes-exactly = (λ e. no-reply-exactly .0 (no-bytes (answerOf x .reply names) e), λ w. ap (λ (o : Option Reply). length (responseOf o)) (no-reply-exactly .1 w))
+  pub no-bytes-exactly : (length (response (answerOf x)) ≡ 0) ↔ IsUnwritten (outcomeNumber (answerOf x .outcome))
+  no-bytes-exactly = (λ e. no-reply-exactly .0 (no-bytes (answerOf x .reply) e), λ w. ap (λ (o : Option Reply). length (responseOf o)) (no-reply-exactly .1 w))
     where
       no-bytes : (o : Option Reply) → length (responseOf o) ≡ 0 → o ≡ none
       no-bytes none e = refl
@@ -182,7 +182,7 @@ module _ (x : Call) (names : List (List ℕ)) where
 
 -- SM?GA, SM?GL and SM?KQ change no row
 effect-reads : (x : Call) (c : Command) (vs : List Value) (r s : List ℕ) → isAmong c (GA ∷ GL ∷ KQ ∷ []) ≡ true → (effect x c vs r s .slots ≡ x .slots) × (effect x c vs r s .registers ≡ x .registers)
-unfolding answered listed
+unfolding answered
 effect-reads x RS vs r s e = nope (cc)
 effect-reads x KC vs r s e = nope (cc)
 effect-reads x KR vs r s e = nope (cc)

@@ -9,14 +9,14 @@ use Rattle.message_commands.specs.declared.Command.{Command}
 use Rattle.message_commands.specs.declared.Command.the-variants.{RS, KC, KR, KL, KF, KX, KD, GA, GL, KQ, Unknown}
 use Rattle.engine.specs.Requests.{commandIn, fieldsIn}
 use Rattle.engine.specs.Questions.{Call, questions, firstNo}
-use Rattle.engine.specs.Answers.{Answer, slotsPending, slotsWithout, refused, answered, listed, effect, answerTo, answerOf}
+use Rattle.engine.specs.Answers.{Answer, slotsPending, slotsWithout, refused, answered, effect, answerTo, answerOf}
 use Rattle.engine.specs.declared.Refusal.{Refusal}
 
 abbrev pub Counted : Call → Answer → Type 0
 Counted x a = (length (a .slots) ≡ length (x .slots)) × (length (a .registers) ≡ length (x .registers))
 
 effect-counted : (x : Call) (c : Command) (vs : List Value) (r s : List ℕ) → Counted x (effect x c vs r s)
-unfolding answered listed slotsPending slotsWithout
+unfolding answered slotsPending slotsWithout
 effect-counted x RS vs r s = (length-map (x .slots) _, refl)
 effect-counted x KC vs r s = (length-set (x .slots) _ _, refl)
 effect-counted x KR vs r s = (length-set (x .slots) _ _, refl)

@@ -1,4 +1,4 @@
--- DEMAND 3 of the engine: for every list of calls, from empty tables of all row counts, whatever the requests, supplements and buffers hold, and whatever sequence SM?GL's list has.
+-- DEMAND 3 of the engine: for every list of calls, from empty tables of all row counts, whatever the requests, supplements and buffers hold.
 use mathlib.Core.Path.{_≡_, refl}
 use mathlib.Core.List.{List}
 use Prim.Native.Nat.{ℕ}
@@ -25,7 +25,7 @@ abbrev pub rowsOf : Lent → Tables
 rowsOf t = tablesOf (t .slots) (t .registers)
 
 pub steps : (t : Lent) (e : Input) → Step (rowsOf t) (itemAt t e) (rowsOf (rowsAfter t e))
-steps t e = rw (answer-is (response (answerOf (callOf t e)) (e .sequence)) (e .buffer)) (answer-step (callOf t e) refl (e .sequence))
+steps t e = rw (answer-is (response (answerOf (callOf t e))) (e .buffer)) (answer-step (callOf t e) refl)
 
 pub starts-empty : (a b : ℕ) → rowsOf (emptyRows a b) ≡ empty a b
 unfolding emptyRows empty

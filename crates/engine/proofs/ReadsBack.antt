@@ -2,9 +2,9 @@
 use mathlib.Core.Path.{_≡_, refl, sym, subst}
 use mathlib.Core.Logic.{_⊎_, inl, inr}
 use mathlib.Core.Bool.{Bool, true, false, cond, not, _&&_}
-use mathlib.Core.List.{List, [], _∷_, Perm}
+use mathlib.Core.List.{List, [], _∷_}
 use mathlib.Core.Option.{Option, none, some}
-use Prim.Native.Nat.{ℕ, _+_, _-_, _*_, _≤_}
+use Prim.Native.Nat.{ℕ, _+_, _-_, _≤_}
 use native.Mathlib.Omega.{arith}
 use lib.Dec.{eqb, leb}
 use lib.ListN.{length, length-take}
@@ -19,7 +19,7 @@ use Rattle.text_classes.specs.declared.Class.the-variants.{Text, Printable}
 use Rattle.text_timestamps.specs.Timestamps.{isTimestamp}
 use Rattle.text_forms.specs.declared.Form.the-variants.{Name}
 use Rattle.text_forms.proofs.FormBounds.{in-form-text}
-use Rattle.field_values.specs.Values.{Value, number, string, contentBytes, payloadBytes, areValues}
+use Rattle.field_values.specs.Values.{Value, string, contentBytes, payloadBytes, areValues}
 use Rattle.record_identities.specs.Identities.{nameIn}
 use Rattle.record_types.specs.KeyRecords.{publicKeyInForm}
 use Rattle.message_frames.specs.Frames.{headerOf, answered as asAnswered}
@@ -36,11 +36,11 @@ use Rattle.row_types.specs.Sound.{areSound}
 use Rattle.row_types.specs.RowReplies.{storedIn, slotNames, nameFields, queryFields}
 use Rattle.row_types.specs.Supplements.{loadRequest, isIdentityRight, isLoadRequestRight, isWellFormed}
 use Rattle.row_types.proofs.ListLaws.{every-at}
-use Rattle.row_types.proofs.RowReplyLaws.{sequence-values, query-values, stored-values}
+use Rattle.row_types.proofs.RowReplyLaws.{names-values, query-values, stored-values}
 use Rattle.engine.specs.Refusals.{RefusalEntry, refusal}
 use Rattle.engine.specs.Requests.{commandIn, fieldsIn, isOneOfTen, registerIn, recordIn, slotIn, firstText, kmcIdentityIn}
 use Rattle.engine.specs.Questions.{Call, areCounts, slotNamed, registerNumbered, isFilled, questions, firstNo}
-use Rattle.engine.specs.Answers.{response, responseOf, accepted, errorHeader, answered, listed, effect, refused, answerTo, answerOf}
+use Rattle.engine.specs.Answers.{response, responseOf, accepted, errorHeader, answered, effect, refused, answerTo, answerOf}
 use Rattle.engine.specs.declared.Refusal.{Refusal}
 use Rattle.engine.proofs.RowWords.{named-state, free-register-sound}
 use Rattle.engine.proofs.RefusalLaws.{Under, under-error, under-own, Replied, reply, refusal-replied}
@@ -173,8 +173,8 @@ shown-card x vs y =
       short = omega (arith, after-string (storedIn row) [] 256 0 (stored-length row sound filled) (omega arith));
     }
 
--- the counts are those of the rows; names are those of the slots that are not free, each once, in some sequence
-module _ (x : Call) (m : x .slotCount ≡ length (x .slots)) (n : x .registerCount ≡ length (x .registers)) (names : List (List ℕ)) (p : Perm names (slotNames (x .slots))) where
+-- the counts are those of the rows
+module _ (x : Call) (m : x .slotCount ≡ length (x .slots)) (n : x .registerCount ≡ length (x .registers)) where
   few-slots : (c : Command) (vs : List Value) → Yes x c vs → length (x .slots) ≤ 8
   unfolding areCounts
   few-slots c vs y =
@@ -200,12 +200,12 @@ module _ (x : Call) (m : x .slotCount ≡ length (x .slots)) (n : x .registerCou
         short = rw (row-is x KQ vs y k) (omega (arith, query-length row (x .registers) sound o few));
       }
 
-  -- SM?GL: the names, in whatever sequence
-  named-slots : (vs : List Value) → Yes x GL vs → CanBeSent (nameFields names)
+  -- SM?GL: the names
+  named-slots : (vs : List Value) → Yes x GL vs → CanBeSent (nameFields (slotNames (x .slots)))
   named-slots vs y =
       record {
-        values = sequence-values names (x .slots) p (slots-sound x GL vs y);
-        short = omega (arith, listed-length names (x .slots) p (slots-sound x GL vs y), few-slots GL vs y);
+        values = names-values (x .slots) (slots-sound x GL vs y);
+        short = omega (arith, listed-length (x .slots) (slots-sound x GL vs y), few-slots GL vs y);
       }
 
   -- SM?KL: register and card
@@ -217,11 +217,11 @@ module _ (x : Call) (m : x .slotCount ≡ length (x .slots)) (n : x .registerCou
         short = omega (arith, after-number (register-at x vs y .place + 1) (string card ∷ []) 258 (after-string card [] 256 0 (is-short x vs y) (omega arith)));
       }
 
-  load-back : (vs : List Value) → Yes x KL vs → commandIn (x .request) ≡ KL → ReadsBack (effect x KL vs (recordIn KL vs) (slotIn KL vs) .reply names)
-  load-back vs y e = subst ReadsBack (sym (kl-reply x vs y names)) (yes-back x KL vs y e (loadFields x vs y) (loaded vs y))
+  load-back : (vs : List Value) → Yes x KL vs → commandIn (x .request) ≡ KL → ReadsBack (effect x KL vs (recordIn KL vs) (slotIn KL vs) .reply)
+  load-back vs y e = subst ReadsBack (sym (kl-reply x vs y)) (yes-back x KL vs y e (loadFields x vs y) (loaded vs y))
 
-  effect-back : (c : Command) (vs : List Value) → Yes x c vs → commandIn (x .request) ≡ c → ReadsBack (effect x c vs (recordIn c vs) (slotIn c vs) .reply names)
-  unfolding answered listed recordIn slotIn
+  effect-back : (c : Command) (vs : List Value) → Yes x c vs → commandIn (x .request) ≡ c → ReadsBack (effect x c vs (recordIn c vs) (slotIn c vs) .reply)
+  unfolding answered recordIn slotIn
   effect-back RS vs y e = yes-back x RS vs y e [] no-fields
   effect-back KC vs y e =
       let q = kmcIdentityIn (firstText vs) in
@@ -234,25 +234,25 @@ module _ (x : Call) (m : x .slotCount ≡ length (x .slots)) (n : x .registerCou
   effect-back KX vs y e = yes-back x KX vs y e [] no-fields
   effect-back KD vs y e = yes-back x KD vs y e [] no-fields
   effect-back GA vs y e = yes-back x GA vs y e (string (storedIn (registerNumbered (registerIn vs) (x .registers))) ∷ []) (shown-card x vs y)
-  effect-back GL vs y e = yes-back x GL vs y e (nameFields names) (named-slots vs y)
+  effect-back GL vs y e = yes-back x GL vs y e (nameFields (slotNames (x .slots))) (named-slots vs y)
   effect-back KQ vs y e = yes-back x KQ vs y e (queryFields (slotNamed (slotIn KQ vs) (x .slots)) (x .registers)) (queried vs y)
   effect-back Unknown vs y e = let z = y .header in nope (cc)
 
-  refused-back : (r : Refusal) → firstNo (questions x) ≡ some r → ReadsBack (refused x r .reply names)
+  refused-back : (r : Refusal) → firstNo (questions x) ≡ some r → ReadsBack (refused x r .reply)
   unfolding refused
   refused-back r e = refusal-back x r e
 
-  answer-back : ReadsBack (answerOf x .reply names)
+  answer-back : ReadsBack (answerOf x .reply)
   unfolding answerOf
   answer-back = go (firstNo (questions x)) refl
     where
-      go : (o : Option Refusal) → firstNo (questions x) ≡ o → ReadsBack (answerTo x o (commandIn (x .request)) (fieldsIn (x .request)) .reply names)
+      go : (o : Option Refusal) → firstNo (questions x) ≡ o → ReadsBack (answerTo x o (commandIn (x .request)) (fieldsIn (x .request)) .reply)
       go (some r) e = refused-back r e
       go none e = effect-back (commandIn (x .request)) (fieldsIn (x .request)) (yes-of x e) refl
 
   -- THE LAW: the response reads back as just the header, the status and the fields of the answer's reply
-  pub reads-back : (r : Reply) → answerOf x .reply names ≡ some r → Says (response (answerOf x) names) r
-  reads-back r e = go (answerOf x .reply names) e answer-back
+  pub reads-back : (r : Reply) → answerOf x .reply ≡ some r → Says (response (answerOf x)) r
+  reads-back r e = go (answerOf x .reply) e answer-back
     where
       go : (o : Option Reply) → o ≡ some r → ReadsBack o → Says (responseOf o) r
       go none w k = nope (cc)

@@ -1,33 +1,33 @@
 -- How many bytes the fields of the replies take that tell of rows, where the rows are sound.
-use mathlib.Core.Path.{_≡_, refl, ap, _∙_}
-use mathlib.Core.Bool.{Bool, true, false, cond, not, _&&_, Bool-set}
-use mathlib.Core.List.{List, [], _∷_, _++_, map, Perm, List·Permᴰ, List·Permᴰ·nil, List·Permᴰ·cons, List·Permᴰ·swap, List·Permᴰ·trans}
-use mathlib.Core.Logic.{∥∥₁-elim}
+use mathlib.Core.Path.{_≡_, refl, _∙_}
+use mathlib.Core.Bool.{Bool, true, false, cond, not}
+use mathlib.Core.List.{List, [], _∷_, map}
 use Prim.Native.Nat.{ℕ, suc, _+_, _*_, _≤_}
 use native.Mathlib.Omega.{arith}
 use lib.Dec.{eqb, leb}
-use lib.ListN.{length, take, length-append, length-take, length-map}
-use borrow.Author.Tests.{leb-true, le-leb, eqb-true, eq-eqb}
+use lib.ListN.{length, length-append, length-take}
+use borrow.Author.Tests.{leb-true, le-leb, eqb-true}
 use Rattle.byte_strings.specs.Texts.{text}
+use Rattle.byte_orders.specs.Orders.{isBefore}
+use Rattle.byte_orders.proofs.OrderLaws.{sort-perm, sort-length}
 use Rattle.byte_strings.specs.Strings.{isNot, run}
 use Rattle.byte_strings.proofs.Flags.{and-first, and-second, and-both}
-use Rattle.byte_strings.proofs.StringLaws.{run-le}
 use Rattle.text_classes.specs.Classes.{areAll}
 use Rattle.text_classes.specs.declared.Class.the-variants.{Hexadecimal}
 use Rattle.text_classes.proofs.Identify.{name-short}
 use Rattle.text_timestamps.proofs.Plain.{timestamp-length}
-use Rattle.field_values.specs.Values.{Value, number, string, octets, fieldBytes, payloadBytes}
+use Rattle.field_values.specs.Values.{Value, number, string, octets, payloadBytes}
 use Rattle.field_writer.proofs.WriteLaws.{payload-append}
 use Rattle.field_writer.proofs.Lengths.{string-length, octets-length, number-short, payload-length}
 use Rattle.card_stored.specs.Stored.{isStored}
-use Rattle.row_types.specs.Lists.{everyRow, trimmed, rowsThat, numbersFrom}
+use Rattle.row_types.specs.Lists.{everyRow, trimmed, numbersFrom}
 use Rattle.row_types.specs.Slots.{hasState, kmcidOf, isSlotSound}
 use Rattle.row_types.specs.Registers.{isVacant, isUnder, isRegisterSound}
 use Rattle.row_types.specs.RowReplies.{storedIn, slotNames, nameFields, stateText, slotFields, registersUnder, numberFields, queryFields}
 use Rattle.row_types.specs.declared.SlotRow.{SlotRow}
 use Rattle.row_types.specs.declared.RegisterRow.{RegisterRow}
 use Rattle.row_types.specs.declared.SlotState.the-variants.{Free, Pending, Loading}
-use Rattle.row_types.proofs.RowReplyLaws.{notFree, sound-kmcid, sound-fingerprint, sound-tvp, every-sequence}
+use Rattle.row_types.proofs.RowReplyLaws.{notFree, namesIn, sound-kmcid, sound-fingerprint, sound-tvp, every-turned}
 
 -- a string field and fields after it
 pub after-string : (v : List ℕ) (vs : List Value) (a b : ℕ) → length v ≤ a → length (payloadBytes vs) ≤ b → length (payloadBytes (string v ∷ vs)) ≤ a + 2 + b
@@ -58,8 +58,7 @@ names-length (s ∷ ss) e =
     let k = names-length ss (and-second (isShort s) (everyRow isShort ss) e) in
     omega (arith, after-string s (nameFields ss) 40 (42 * length ss) h k)
 
-names-short : (rows : List SlotRow) → everyRow isSlotSound rows ≡ true → (everyRow isShort (slotNames rows) ≡ true) × (length (slotNames rows) ≤ length rows)
-unfolding slotNames
+names-short : (rows : List SlotRow) → everyRow isSlotSound rows ≡ true → (everyRow isShort (namesIn rows) ≡ true) × (length (namesIn rows) ≤ length rows)
 names-short [] e = (refl, omega arith)
 names-short (r ∷ rs) e = go (hasState Free r) refl (names-short rs (and-second (isSlotSound r) (everyRow isSlotSound rs) e))
   where
@@ -70,23 +69,12 @@ names-short (r ∷ rs) e = go (hasState Free r) refl (names-short rs (and-second
         let n = name-short (kmcidOf r) (sound-kmcid r (and-first (isSlotSound r) (everyRow isSlotSound rs) e) q) in
         (and-both (isShort (kmcidOf r)) (everyRow isShort (map kmcidOf (notFree rs))) (le-leb (length (kmcidOf r)) 40 n) (w .0), omega (arith, w .1))
 
--- another sequence has as many
-module _ {A : Type 0} where
-  length-turned : {l m : List A} → List·Permᴰ l m → length l ≡ length m
-  length-turned List·Permᴰ·nil = refl
-  length-turned (List·Permᴰ·cons e d) = ap suc (length-turned d)
-  length-turned (List·Permᴰ·swap p q) = refl
-  length-turned (List·Permᴰ·trans d e) = length-turned d ∙ length-turned e
-
-  length-sequence : {l m : List A} → Perm l m → length l ≡ length m
-  length-sequence {l} {m} p =
-      eqb-true (length l) (length m) (∥∥₁-elim p (Bool-set (eqb (length l) (length m)) true) (λ d. eq-eqb (length l) (length m) (length-turned d)))
-
-pub listed-length : (names : List (List ℕ)) (rows : List SlotRow) → Perm names (slotNames rows) → everyRow isSlotSound rows ≡ true → length (payloadBytes (nameFields names)) ≤ 42 * length rows
-listed-length names rows p e =
+pub listed-length : (rows : List SlotRow) → everyRow isSlotSound rows ≡ true → length (payloadBytes (nameFields (slotNames rows))) ≤ 42 * length rows
+unfolding slotNames
+listed-length rows e =
     let w = names-short rows e in
-    let k : length names ≡ length (slotNames rows) = length-sequence p in
-    omega (arith, names-length names (rw (every-sequence isShort p) (w .0)), w .1)
+    let k : length (slotNames rows) ≡ length (namesIn rows) = sort-length isBefore (namesIn rows) in
+    omega (arith, names-length (slotNames rows) (every-turned isShort (sort-perm isBefore (namesIn rows)) ∙ w .0), w .1, k)
 
 -- SM?KQ: what a row holds, and the numbers of its registers
 state-length : (r : SlotRow) → length (stateText r) ≤ 7

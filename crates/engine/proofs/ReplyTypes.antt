@@ -11,12 +11,12 @@ use Rattle.message_replies.specs.Responses.{Reply}
 use Rattle.message_commands.specs.declared.Command.{Command}
 use Rattle.message_commands.specs.declared.Command.the-variants.{RS, KC, KR, KL, KF, KX, KD, GA, GL, KQ, Unknown}
 use Rattle.row_types.specs.Slots.{kmcidOf}
-use Rattle.row_types.specs.RowReplies.{slotFields, registersUnder, queryFields}
+use Rattle.row_types.specs.RowReplies.{slotNames, slotFields, registersUnder, queryFields}
 use Rattle.engine.specs.FieldTypes.{Number, String, areOfTypes, messages}
 use Rattle.engine.specs.Refusals.{Header, general, own, RefusalEntry, refusal}
 use Rattle.engine.specs.Requests.{areFieldsOf, commandIn, fieldsIn, recordIn, slotIn}
 use Rattle.engine.specs.Questions.{Call, slotNamed, questions, firstNo}
-use Rattle.engine.specs.Answers.{replyUnder, answered, listed, effect, refused, answerTo, answerOf}
+use Rattle.engine.specs.Answers.{replyUnder, answered, effect, refused, answerTo, answerOf}
 use Rattle.engine.specs.declared.Refusal.{Refusal}
 use Rattle.engine.specs.declared.Outcome.the-variants.{Refused}
 use Rattle.engine.proofs.QuestionLaws.{allRefusals, no-listed}
@@ -39,19 +39,19 @@ numbers : (ns : List ℕ) → areOfTypes [] (some Number) (map number ns) ≡ tr
 numbers [] = refl
 numbers (n ∷ ns) = numbers ns
 
-effect-types : (x : Call) (c : Command) (vs : List Value) (r s : List ℕ) (names : List (List ℕ)) → AreReplyOf c (effect x c vs r s .reply names)
-unfolding answered listed queryFields slotFields
-effect-types x RS vs r s names = refl
-effect-types x KC vs r s names = refl
-effect-types x KR vs r s names = refl
-effect-types x KL vs r s names = refl
-effect-types x KF vs r s names = refl
-effect-types x KX vs r s names = refl
-effect-types x KD vs r s names = refl
-effect-types x GA vs r s names = refl
-effect-types x GL vs r s names = strings names
-effect-types x KQ vs r s names = numbers (registersUnder (kmcidOf (slotNamed s (x .slots))) (x .registers))
-effect-types x Unknown vs r s names = refl
+effect-types : (x : Call) (c : Command) (vs : List Value) (r s : List ℕ) → AreReplyOf c (effect x c vs r s .reply)
+unfolding answered queryFields slotFields
+effect-types x RS vs r s = refl
+effect-types x KC vs r s = refl
+effect-types x KR vs r s = refl
+effect-types x KL vs r s = refl
+effect-types x KF vs r s = refl
+effect-types x KX vs r s = refl
+effect-types x KD vs r s = refl
+effect-types x GA vs r s = refl
+effect-types x GL vs r s = strings (slotNames (x .slots))
+effect-types x KQ vs r s = numbers (registersUnder (kmcidOf (slotNamed s (x .slots))) (x .registers))
+effect-types x Unknown vs r s = refl
 
 -- no field, or one string
 abbrev pub isBrief : List Value → Bool
@@ -83,19 +83,18 @@ module _ (x : Call) where
   unfolding questions
   request-types e = accepted-exactly x .0 e .1 .1 .1 .1 .1 .1 .1 .0
 
-  module _ (names : List (List ℕ)) where
-    -- and its reply has those of the reply, whatever sequence SM?GL's list has;
-    pub reply-types : isYes (answerOf x .outcome) ≡ true → AreReplyOf c (answerOf x .reply names)
-    unfolding answerOf refused
-    reply-types e = go (firstNo (questions x)) e
-      where
-        go : (o : Option Refusal) → isYes (answerTo x o c vs .outcome) ≡ true → AreReplyOf c (answerTo x o c vs .reply names)
-        go (some r) w = nope (cc)
-        go none w = effect-types x c vs (recordIn c vs) (slotIn c vs) names
+  -- and its reply has those of the reply;
+  pub reply-types : isYes (answerOf x .outcome) ≡ true → AreReplyOf c (answerOf x .reply)
+  unfolding answerOf refused
+  reply-types e = go (firstNo (questions x)) e
+    where
+      go : (o : Option Refusal) → isYes (answerTo x o c vs .outcome) ≡ true → AreReplyOf c (answerTo x o c vs .reply)
+      go (some r) w = nope (cc)
+      go none w = effect-types x c vs (recordIn c vs) (slotIn c vs)
 
-    -- that of a refused request has no field or one string
-    pub refusal-types : (r : Refusal) → answerOf x .outcome ≡ Refused r → isBrief (replyFields (answerOf x .reply names)) ≡ true
-    unfolding answerOf refused
-    refusal-types r e =
-        let w = refused-by x r e in
-        rw w (brief-under (x .request) (refusal r .header) (refusal r) (no-listed (λ z. isBrief (refusal z .fields)) (questions x) r (all-brief x) w))
+  -- that of a refused request has no field or one string
+  pub refusal-types : (r : Refusal) → answerOf x .outcome ≡ Refused r → isBrief (replyFields (answerOf x .reply)) ≡ true
+  unfolding answerOf refused
+  refusal-types r e =
+      let w = refused-by x r e in
+      rw w (brief-under (x .request) (refusal r .header) (refusal r) (no-listed (λ z. isBrief (refusal z .fields)) (questions x) r (all-brief x) w))

@@ -25,7 +25,7 @@ use Rattle.row_types.specs.declared.SlotState.the-variants.{Free, Pending, Load
 use Rattle.row_types.proofs.ListLaws.{trimmed-padded, trimmed-all}
 use Rattle.engine.specs.Requests.{isAmong, commandIn, fieldsIn, recordIn, kmcIdentityIn, slotIn, firstText}
 use Rattle.engine.specs.Questions.{Call, slotPlace, freePlace, placeElse, sessionPlace, slotNamed, questions, firstNo}
-use Rattle.engine.specs.Answers.{slotsMoved, slotsPending, slotsWithout, answered, listed, effect, refused, answerTo, answerOf}
+use Rattle.engine.specs.Answers.{slotsMoved, slotsPending, slotsWithout, answered, effect, refused, answerTo, answerOf}
 use Rattle.engine.specs.declared.Refusal.{Refusal}
 use Rattle.engine.specs.declared.Outcome.{Outcome}
 use Rattle.engine.specs.declared.Outcome.the-variants.{Accepted, Done, Refused}
@@ -161,7 +161,7 @@ module _ (x : Call) (vs : List Value) where
 
   leaves-effect : (c : Command) → Yes x c vs → (a : SlotState) → effect x c vs (recordIn c vs) (slotIn c vs) .outcome ≡ Accepted a
       → Leaves a (slotIn c vs) (effect x c vs (recordIn c vs) (slotIn c vs) .slots)
-  unfolding answered listed
+  unfolding answered
   leaves-effect RS y a e = nope (cc)
   leaves-effect KC y a e = let z : Pending ≡ a = cc in rw (← z) (leaves-kc y)
   leaves-effect KR y a e = let z : Loading ≡ a = cc in rw (← z) (leaves-moved KR y (known-at (x .slots) (slotIn KR vs) (y .known)) Loading refl)
@@ -185,7 +185,7 @@ abbrev pub isSession : Command → Bool
 isSession c = isAmong c (KC ∷ KR ∷ KL ∷ KF ∷ KX ∷ [])
 
 effect-carries : (x : Call) (c : Command) (vs : List Value) (r s : List ℕ) → carriesState (effect x c vs r s .outcome) ≡ (isYes (effect x c vs r s .outcome) && isSession c)
-unfolding answered listed
+unfolding answered
 effect-carries x RS vs r s = refl
 effect-carries x KC vs r s = refl
 effect-carries x KR vs r s = refl

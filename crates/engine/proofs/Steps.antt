@@ -46,7 +46,7 @@ use Rattle.history.specs.Model.{pending, loading, idle, used, free, key, kl, lo
 use Rattle.history.specs.Step.{Step, refuses, reads, starts, opens, loads, closes, deletes-slot, deletes-key, resets}
 use Rattle.engine.specs.Requests.{commandIn, fieldsIn, isOneOfTen, areFieldsOf, registerIn, recordIn, kmcIdentityIn, slotIn, cardIn, firstText}
 use Rattle.engine.specs.Questions.{Call, asked, areCounts, isRecordInForm, isStateRight, isPlace, slotPlace, sessionPlace, storePlace, slotNamed, placeIn, isFilled, groupIn, revisionIn, questions, firstNo}
-use Rattle.engine.specs.Answers.{Answer, response, accepted, slotsMoved, slotsPending, slotsWithout, loadedCard, cardPlace, answered, listed, effect, answerTo, answerOf}
+use Rattle.engine.specs.Answers.{Answer, response, accepted, slotsMoved, slotsPending, slotsWithout, loadedCard, cardPlace, answered, effect, answerTo, answerOf}
 use Rattle.engine.specs.Answers as answers
 use Rattle.engine.specs.Words.{stateIn, slotIs, registerIs, tablesOf, requestOf, itemFor, isAccepted}
 use Rattle.engine.specs.declared.Refusal.{Refusal}
@@ -59,9 +59,9 @@ use Rattle.engine.proofs.Places.{KnownAt, known-at, sound-at, spot-at, 
 abbrev pub Moves : Call → Item → Answer → Type 0
 Moves x ι a = Step (tablesOf (x .slots) (x .registers)) ι (tablesOf (a .slots) (a .registers))
 
--- an answer to a call with the command c and the fields vs is a step, whatever sequence SM?GL's list has
+-- an answer to a call with the command c and the fields vs is a step
 abbrev pub IsStep : Call → Command → List Value → Answer → Type 0
-IsStep x c vs a = (names : List (List ℕ)) → Moves x (itemFor (requestOf c vs) (response a names)) a
+IsStep x c vs a = Moves x (itemFor (requestOf c vs) (response a)) a
 
 -- what is known of an accepted request
 pub record Yes (x : Call) (c : Command) (vs : List Value) : Type 0 where
@@ -102,7 +102,7 @@ yes-of x e =
 -- a refusal
 refused-step : (x : Call) (c : Command) (vs : List Value) (r : Refusal) → firstNo (questions x) ≡ some r → IsStep x c vs (answers.refused x r)
 unfolding answers.refused
-refused-step x c vs r e names = rw (refusal-said x r e) (refuses (requestOf c vs))
+refused-step x c vs r e = rw (refusal-said x r e) (refuses (requestOf c vs))
 
 pub slots-sound : (x : Call) (c : Command) (vs : List Value) → Yes x c vs → everyRow isSlotSound (x .slots) ≡ true
 unfolding areSound
@@ -155,7 +155,7 @@ key-identity r e = and-first (identityInForm (kmcIdentityIn r)) _ e
 
 kc-step : (x : Call) (vs : List Value) → Yes x KC vs → IsStep x KC vs (effect x KC vs (recordIn KC vs) (slotIn KC vs))
 unfolding answered slotsPending recordIn slotIn
-kc-step x vs y names =
+kc-step x vs y =
     let q = kmcIdentityIn (firstText vs) in
     let p = spot-at (x .slots) (x .registers) (nameIn q) (slots-sound x KC vs y) (y .spot) in
     let i = identity-name q (key-identity (firstText vs) (and-first (publicKeyInForm (firstText vs)) _ (y .form))) in
@@ -165,7 +165,7 @@ kc-step x vs y names =
 
 kr-step : (x : Call) (vs : List Value) → Yes x KR vs → IsStep x KR vs (effect x KR vs (recordIn KR vs) (slotIn KR vs))
 unfolding answered
-kr-step x vs y names =
+kr-step x vs y =
     let k = known-at (x .slots) (slotIn KR vs) (y .known) in
     let w : eqb (v x KR vs y k .state) 1 ≡ true = rw (row-is x KR vs y k) at (and-first (hasState Pending (slotNamed (slotIn KR vs) (x .slots))) _ (y .state)) in
     let e : getD (map slotIs (x .slots)) (k .place) free ≡ used (slotIn KR vs) pending = row-reads x KR vs y k ∙ rw w refl in
@@ -182,7 +182,7 @@ not-idle n h e = go (eqb n 1) (eqb n 2) h e
 
 kf-step : (x : Call) (vs : List Value) → Yes x KF vs → IsStep x KF vs (effect x KF vs (recordIn KF vs) (slotIn KF vs))
 unfolding answered
-kf-step x vs y names =
+kf-step x vs y =
     let k = known-at (x .slots) (slotIn KF vs) (y .known) in
     let w : (hasState Pending (v x KF vs y k) || hasState Loading (v x KF vs y k)) ≡ true = rw (row-is x KF vs y k) at (y .state) in
     rw (says-yes x KF vs y, slots-moved x KF vs y k Idle refl) (closes (slotIn KF vs) (k .place) _ (not-idle (v x KF vs y k .state) w) (row-reads x KF vs y k))
@@ -198,13 +198,13 @@ rs-slots x vs y = map-sweep slotIs isSlotSound resetSlot stopped reset-reads (x 
 
 kx-step : (x : Call) (vs : List Value) → Yes x KX vs → IsStep x KX vs (effect x KX vs (recordIn KX vs) (slotIn KX vs))
 unfolding answered dropSlot
-kx-step x vs y names =
+kx-step x vs y =
     let k = known-at (x .slots) (slotIn KX vs) (y .known) in
     rw (says-yes x KX vs y, slots-without x KX vs y k, kx-registers x vs) (deletes-slot (slotIn KX vs) (k .place) _ (row-reads x KX vs y k))
 
 rs-step : (x : Call) (vs : List Value) → Yes x RS vs → IsStep x RS vs (effect x RS vs (recordIn RS vs) (slotIn RS vs))
 unfolding answered reset
-rs-step x vs y names = rw (says-yes x RS vs y, rs-slots x vs y) resets
+rs-step x vs y = rw (says-yes x RS vs y, rs-slots x vs y) resets
 
 -- a key that is loaded: the rows after it
 module _ (x : Call) (vs : List Value) (y : Yes x KL vs) where
@@ -273,9 +273,9 @@ module _ (x : Call) (vs : List Value) (y : Yes x KL vs) where
   abbrev pub loadFields : List Value
   loadFields = number (register-at .place + 1) ∷ string stored ∷ []
 
-  pub kl-reply : (names : List (List ℕ)) → effect x KL vs (recordIn KL vs) name .reply names ≡ some (replyTo (headerOf (x .request)) accepted loadFields)
+  pub kl-reply : effect x KL vs (recordIn KL vs) name .reply ≡ some (replyTo (headerOf (x .request)) accepted loadFields)
   unfolding answered cardPlace
-  kl-reply names =
+  kl-reply =
       ap (λ (o : Option ℕ). some (replyTo (headerOf (x .request)) accepted (number (placeIn (x .registers) o + 1) ∷ string stored ∷ []))) (register-at .is)
 
   -- read back, where the count is the rows'
@@ -293,14 +293,14 @@ module _ (x : Call) (vs : List Value) (y : Yes x KL vs) where
     load-reads = reply-fields (replyTo (headerOf (x .request)) accepted loadFields) (answered-five (headerOf (x .request)) (header-five (x .request) (y .whole))) refl load-values
 
     kl-step : IsStep x KL vs (effect x KL vs (recordIn KL vs) name)
-    kl-step names = rw (kl-reply names, says-yes x KL vs y, load-reads, add-one (register-at .place)) steps-kl
+    kl-step = rw (kl-reply, says-yes x KL vs y, load-reads, add-one (register-at .place)) steps-kl
 
 -- a register that is deleted
 module _ (x : Call) (vs : List Value) (y : Yes x KD vs) where
   kd-step-of : (n : ℕ) → registerIn vs ≡ n → isFilled n (x .registers) ≡ true → IsStep x KD vs (effect x KD vs (recordIn KD vs) (slotIn KD vs))
   unfolding answered isFilled
-  kd-step-of zero e f names = nope (cc)
-  kd-step-of (suc i) e f names =
+  kd-step-of zero e f = nope (cc)
+  kd-step-of (suc i) e f =
       let m : suc i - 1 ≡ i = omega arith in
       let r = getD (x .registers) i freeRegister in
       let g = rw m at (and-second (leb (suc i) (length (x .registers))) _ (and-second (leb 1 (suc i)) _ f)) in
@@ -314,28 +314,28 @@ module _ (x : Call) (vs : List Value) (y : Yes x KD vs) where
 -- the three commands that only read rows
 ga-step : (x : Call) (vs : List Value) → Yes x GA vs → IsStep x GA vs (effect x GA vs (recordIn GA vs) (slotIn GA vs))
 unfolding answered
-ga-step x vs y names = rw (says-yes x GA vs y) reads
+ga-step x vs y = rw (says-yes x GA vs y) reads
 
 gl-step : (x : Call) (vs : List Value) → Yes x GL vs → IsStep x GL vs (effect x GL vs (recordIn GL vs) (slotIn GL vs))
-unfolding listed
-gl-step x vs y names = rw (says-yes x GL vs y) reads
+unfolding answered
+gl-step x vs y = rw (says-yes x GL vs y) reads
 
 kq-step : (x : Call) (vs : List Value) → Yes x KQ vs → IsStep x KQ vs (effect x KQ vs (recordIn KQ vs) (slotIn KQ vs))
 unfolding answered
-kq-step x vs y names = rw (says-yes x KQ vs y) reads
+kq-step x vs y = rw (says-yes x KQ vs y) reads
 
 -- each command: some item is its step, whatever the counts are;
 moves-effect : (x : Call) (c : Command) (vs : List Value) → Yes x c vs → (ι : Item) × Moves x ι (effect x c vs (recordIn c vs) (slotIn c vs))
-moves-effect x RS vs y = (_, rs-step x vs y [])
-moves-effect x KC vs y = (_, kc-step x vs y [])
-moves-effect x KR vs y = (_, kr-step x vs y [])
+moves-effect x RS vs y = (_, rs-step x vs y)
+moves-effect x KC vs y = (_, kc-step x vs y)
+moves-effect x KR vs y = (_, kr-step x vs y)
 moves-effect x KL vs y = (loading-step x vs y, steps-kl x vs y)
-moves-effect x KF vs y = (_, kf-step x vs y [])
-moves-effect x KX vs y = (_, kx-step x vs y [])
-moves-effect x KD vs y = (_, kd-step x vs y [])
-moves-effect x GA vs y = (_, ga-step x vs y [])
-moves-effect x GL vs y = (_, gl-step x vs y [])
-moves-effect x KQ vs y = (_, kq-step x vs y [])
+moves-effect x KF vs y = (_, kf-step x vs y)
+moves-effect x KX vs y = (_, kx-step x vs y)
+moves-effect x KD vs y = (_, kd-step x vs y)
+moves-effect x GA vs y = (_, ga-step x vs y)
+moves-effect x GL vs y = (_, gl-step x vs y)
+moves-effect x KQ vs y = (_, kq-step x vs y)
 moves-effect x Unknown vs y = let z = y .header in nope (cc)
 
 -- the item that is read off the answer is it where the count of registers is the rows'
@@ -367,5 +367,5 @@ unfolding answerOf
 moves x = go (firstNo (questions x)) refl
   where
     go : (o : Option Refusal) → firstNo (questions x) ≡ o → (ι : Item) × Moves x ι (answerTo x o (commandIn (x .request)) (fieldsIn (x .request)))
-    go (some r) e = (_, refused-step x (commandIn (x .request)) (fieldsIn (x .request)) r e [])
+    go (some r) e = (_, refused-step x (commandIn (x .request)) (fieldsIn (x .request)) r e)
     go none e = moves-effect x (commandIn (x .request)) (fieldsIn (x .request)) (yes-of x e)

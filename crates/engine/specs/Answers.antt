@@ -1,5 +1,6 @@
 -- The answer to a call: outcome, reply and all rows after it (document 01, Slots and registers, Questions in order).
 use Prim.Native.Nat.{ℕ, _+_, _-_}
+use mathlib.Core.Path.{_≡_}
 use mathlib.Core.List.{List, [], _∷_, _++_, map}
 use mathlib.Core.Option.{Option, none, some}
 use lib.ListN.{length, set, drop}
@@ -13,7 +14,7 @@ use Rattle.message_commands.specs.declared.Command.{Command}
 use Rattle.message_commands.specs.declared.Command.the-variants.{RS, KC, KR, KL, KF, KX, KD, GA, GL, KQ, Unknown}
 use Rattle.row_types.specs.Slots.{freeSlot, filledSlot, movedSlot, resetSlot}
 use Rattle.row_types.specs.Registers.{freeRegister, filledRegister, withoutSlot}
-use Rattle.row_types.specs.RowReplies.{storedIn, nameFields, queryFields}
+use Rattle.row_types.specs.RowReplies.{storedIn, slotNames, nameFields, queryFields}
 use Rattle.row_types.specs.Supplements.{loadRequest}
 use Rattle.row_types.specs.declared.SlotRow.{SlotRow}
 use Rattle.row_types.specs.declared.RegisterRow.{RegisterRow}
@@ -27,11 +28,10 @@ use Rattle.engine.specs.declared.Refusal.{Refusal}
 use Rattle.engine.specs.declared.Outcome.{Outcome}
 use Rattle.engine.specs.declared.Outcome.the-variants.{Accepted, Done, Refused}
 
--- outcome, reply (none where nothing is written), and all rows after it. Only the sequence of SM?GL's list is free:
--- its reply goes by the sequence of the slots' names, and no other reply looks at it
+-- outcome, reply (none where nothing is written), and all rows after it
 pub record Answer : Type 0 where
   pub outcome : Outcome
-  pub reply : List (List ℕ) → Option Reply
+  pub reply : Option Reply
   pub slots : List SlotRow
   pub registers : List RegisterRow
 
@@ -41,12 +41,16 @@ responseOf none = []
 responseOf (some r) = replyBytes r
 
 -- the response: its reply's bytes
-abbrev pub response : Answer → List (List ℕ) → List ℕ
-response a names = responseOf (a .reply names)
+abbrev pub response : Answer → List ℕ
+response a = responseOf (a .reply)
 
 -- the response buffer afterwards: bytes beyond the response keep their value
 abbrev pub bufferAfter : List ℕ → List ℕ → List ℕ
 bufferAfter bytes buffer = bytes ++ drop (length bytes) buffer
+
+-- an answer is responded: the length of its response, and the buffer before and after it
+abbrev pub Responded : Answer → List ℕ → ℕ → List ℕ → Type 0
+Responded a before size after = (size ≡ length (response a)) × (after ≡ bufferAfter (response a) before)
 
 abbrev pub errorHeader : List ℕ
 errorHeader = text "GL!ER"
@@ -89,7 +93,7 @@ refusalReply request r = replyUnder request (refusal r .header) (refusal r)
 unfoldable pub refused : Call → Refusal → Answer
 refused x r = record {
   outcome = Refused r;
-  reply = λ names. refusalReply (x .request) r;
+  reply = refusalReply (x .request) r;
   slots = x .slots;
   registers = x .registers;
 }
@@ -98,18 +102,9 @@ refused x r = record {
 unfoldable pub answered : Call → Outcome → List Value → List SlotRow → List RegisterRow → Answer
 answered x o fields slots registers = record {
   outcome = o;
-  reply = λ names. some (replyTo (headerOf (x .request)) accepted fields);
+  reply = some (replyTo (headerOf (x .request)) accepted fields);
   slots = slots;
   registers = registers;
-}
-
--- SM?GL: the names, in the sequence that is chosen
-unfoldable pub listed : Call → Answer
-listed x = record {
-  outcome = Done;
-  reply = λ names. some (replyTo (headerOf (x .request)) accepted (nameFields names));
-  slots = x .slots;
-  registers = x .registers;
 }
 
 -- what each command does (document 01, Slots and registers; the clauses are 001's): vs are its fields, r the record
@@ -140,8 +135,8 @@ effect x KD vs r s = answered x Done [] (x .slots) (set (x .registers) (register
 -- SM?GA, 6.3.8, gets a card: the stored card is replied
 effect x GA vs r s =
     answered x Done (string (storedIn (registerNumbered (registerIn vs) (x .registers))) ∷ []) (x .slots) (x .registers)
--- SM?GL, 6.3.1, lists the slots: each slot not free is replied once
-effect x GL vs r s = listed x
+-- SM?GL, 6.3.1, lists the slots: the names of those not free are replied, ascending (document 02, N1)
+effect x GL vs r s = answered x Done (nameFields (slotNames (x .slots))) (x .slots) (x .registers)
 -- SM?KQ, 6.3.2, queries a slot: state, KMCID, TVP and fingerprints of the slot, and the numbers of its registers are
 -- replied
 effect x KQ vs r s = answered x Done (queryFields (slotNamed s (x .slots)) (x .registers)) (x .slots) (x .registers)

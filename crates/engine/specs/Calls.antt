@@ -7,11 +7,10 @@ use lib.ListN.{length, drop}
 use denote.Ref.{RefT, now}
 use denote.Triple.Both.{Both}
 use Rattle.row_types.specs.Places.{slotRows, registerRows}
-use Rattle.row_types.specs.RowReplies.{InSomeSequence}
 use Rattle.row_types.specs.declared.Tables.{Tables}
 use Rattle.row_types.specs.declared.Supplement.{Supplement}
 use Rattle.engine.specs.Questions.{Call}
-use Rattle.engine.specs.Answers.{Answer, response, answerOf, bufferAfter}
+use Rattle.engine.specs.Answers.{Answer, Responded, answerOf}
 use Rattle.engine.specs.declared.Outcome.{Outcome}
 
 -- of the places that there are, the rows are as many as the caller has; the counts are the caller's own, so that 33
@@ -32,13 +31,6 @@ abbrev pub answerOver
     : {X Y : Type 0} → Tables → Supplement → Both (RefT (List ℕ)) X → Both (RefT (List ℕ)) Y → Answer
 answerOver tables supplement request response =
     answerOf (callIn tables supplement (now (request .entry)) (length (now (response .entry))))
-
--- the response's length and the buffer after it, SM?GL's list in some sequence of the slots: this alone of an answer is
--- open
-abbrev pub Responded : Tables → Answer → List ℕ → ℕ → List ℕ → Type 0
-Responded t a before n after =
-    InSomeSequence (slotRows t)
-    (λ (names : List (List ℕ)). (n ≡ length (response a names)) × (after ≡ bufferAfter (response a names) before))
 
 -- the answer's rows, and the places beyond them as they were
 abbrev pub tablesAfter : Tables → Answer → Tables
@@ -62,7 +54,7 @@ abbrev pub IsAnswered
     → Type 0
 IsAnswered tables supplement request response outcome size after =
     (outcome ≡ answerOver tables supplement request response .outcome)
-    × (Responded tables (answerOver tables supplement request response)
+    × (Responded (answerOver tables supplement request response)
     (now (response .entry)) size (now (response .exit))
     × ((after ≡ tablesAfter tables (answerOver tables supplement request response))
     × (size ≤ length (now (response .entry)))))

@@ -100,13 +100,11 @@ itemFor e a = e ⇒ cond (isAccepted a) (saysYes e a) refused
 abbrev pub itemOf : List ℕ → List ℕ → Item
 itemOf request answer = itemFor (requestOf (commandIn request) (fieldsIn request)) answer
 
--- THE LIST: what is handed in at each call; each request with a supplement and a response buffer of its own. Beside
--- them stands the sequence that the engine lists the slots in if it is SM?GL: whatever it is at each call
+-- THE LIST: what is handed in at each call; each request with a supplement and a response buffer of its own
 pub record Input : Type 0 where
   pub request : List ℕ
   pub supplement : Supplement
   pub buffer : List ℕ
-  pub sequence : List (List ℕ)
 
 pub record Lent : Type 0 where
   pub slots : List SlotRow
@@ -132,7 +130,7 @@ abbrev pub answerBytes : List ℕ → List ℕ → List ℕ
 answerBytes bytes buffer = take (length bytes) (bufferAfter bytes buffer)
 
 abbrev pub itemAt : Lent → Input → Item
-itemAt t e = itemOf (e .request) (answerBytes (response (answerOf (callOf t e)) (e .sequence)) (e .buffer))
+itemAt t e = itemOf (e .request) (answerBytes (response (answerOf (callOf t e))) (e .buffer))
 
 -- empty tables: every row is zero
 unfoldable pub emptyRows : ℕ → ℕ → Lent

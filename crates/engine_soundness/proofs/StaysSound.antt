@@ -31,7 +31,7 @@ use Rattle.history.proofs.Sound.{sound-step, sound-empty}
 use Rattle.engine.specs.Refusals.{refusal}
 use Rattle.engine.specs.Requests.{commandIn, fieldsIn, recordIn, kmcIdentityIn, slotIn, cardIn, firstText}
 use Rattle.engine.specs.Questions.{Call, slotNamed, questions, firstNo}
-use Rattle.engine.specs.Answers.{Answer, slotsMoved, slotsPending, slotsWithout, answered, listed, effect, refused, answerTo, answerOf}
+use Rattle.engine.specs.Answers.{Answer, slotsMoved, slotsPending, slotsWithout, answered, effect, refused, answerTo, answerOf}
 use Rattle.engine.specs.Words.{tablesOf, Input, Lent, callOf, rowsAfter, itemAt, emptyRows}
 use Rattle.engine.specs.declared.Refusal.{Refusal}
 use Rattle.engine.specs.declared.Refusal.the-variants.{UnsoundRows}
@@ -105,7 +105,7 @@ module _ (x : Call) (vs : List Value) (s : SoundTables (x .slots) (x .registers)
   each-kd y = record { slots = s .each-slot; registers = every-set isRegisterSound (x .registers) _ freeRegister free-register-sound (s .each-register) }
 
 each-effect : (x : Call) (c : Command) (vs : List Value) → SoundTables (x .slots) (x .registers) → Yes x c vs → EachSound (effect x c vs (recordIn c vs) (slotIn c vs))
-unfolding answered listed
+unfolding answered
 each-effect x RS vs s y = each-rs x vs s y
 each-effect x KC vs s y = each-kc x vs s y
 each-effect x KR vs s y = each-kr x vs s y

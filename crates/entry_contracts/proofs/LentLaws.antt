@@ -2,7 +2,7 @@
 -- what is promised over the tables is promised over the rows, where they are stored back, and where a refusal stores none.
 use mathlib.Core.Path.{_≡_, refl, sym, ap, subst, _∙_}
 use mathlib.Core.Bool.{Bool, true, false, not}
-use mathlib.Core.List.{List, [], Perm·refl}
+use mathlib.Core.List.{List, []}
 use mathlib.Core.Option.{some}
 use Prim.Native.Nat.{ℕ, _≤_, zero-le}
 use native.Mathlib.Omega.{arith}
@@ -10,7 +10,6 @@ use lib.Dec.{T, T-not, eqb, leb}
 use lib.ListN.{length, take}
 use lib.Seq.{take-length}
 use Rattle.row_types.specs.Places.{slotRows, registerRows}
-use Rattle.row_types.specs.RowReplies.{slotNames}
 use Rattle.row_types.specs.declared.SlotRow.{SlotRow}
 use Rattle.row_types.specs.declared.RegisterRow.{RegisterRow}
 use Rattle.row_types.specs.declared.Supplement.{Supplement}
@@ -21,7 +20,7 @@ use Rattle.decide_counts.specs.First.{firstRefusal}
 use Rattle.decide_counts.proofs.CountLaws.{slots-few, registers-few}
 use Rattle.engine.specs.Refusals.{refusal}
 use Rattle.engine.specs.Questions.{Call, areCounts, questions, firstNo}
-use Rattle.engine.specs.Answers.{response, responseOf, bufferAfter, answerOf}
+use Rattle.engine.specs.Answers.{response, responseOf, bufferAfter, Responded, answerOf}
 use Rattle.engine.specs.Calls.{callIn}
 use Rattle.engine.specs.Outcomes.{outcomeNumber}
 use Rattle.engine.specs.Usable.{isUsable}
@@ -37,7 +36,7 @@ use Rattle.row_lending.proofs.OverlayLaws.{overlay-front, overlay-others}
 use Rattle.entry_contracts.specs.Numbers.{stateByte}
 use Rattle.entry_contracts.specs.Replies.{Replies}
 use Rattle.entry_contracts.specs.declared.Reply.{Reply}
-use Rattle.entry_contracts.specs.Lent.{LentResponded, lentTables}
+use Rattle.entry_contracts.specs.Lent.{lentTables}
 use Rattle.entry_contracts.specs.Handles.{Run, Handles}
 
 -- 8 and 32 places
@@ -74,7 +73,7 @@ module _ (ys : List SlotRow) (zs : List RegisterRow) where
   -- a call over them, and a reply r to it with the buffer afterwards
   module _ (x : Supplement) (q b : List ℕ) where
     abbrev lent : Call
-    lent = callOf rows (record { request = q; supplement = x; buffer = b; sequence = [] })
+    lent = callOf rows (record { request = q; supplement = x; buffer = b })
 
     abbrev run : Reply → List ℕ → Run
     run r after = record { request = q; supplement = x; before = b; after = after; outcome = r .outcome; state = r .state; size = r .length }
@@ -90,11 +89,11 @@ module _ (ys : List SlotRow) (zs : List RegisterRow) where
     refused-with y e z u =
         let o : answerOf lent .outcome ≡ Refused y = first-no-decides lent y e in
         let keeps = refused-keeps lent y o in
-        let nothing : response (answerOf lent) (slotNames ys) ≡ [] = ap responseOf (no-reply-exactly lent (slotNames ys) .1 (subst IsUnwritten (sym (ap outcomeNumber o)) u)) in
+        let nothing : response (answerOf lent) ≡ [] = ap responseOf (no-reply-exactly lent .1 (subst IsUnwritten (sym (ap outcomeNumber o)) u)) in
         record {
           outcome-is = z ∙ sym (ap outcomeNumber o);
           state-is = sym (ap stateByte o);
-          written = (slotNames ys, (Perm·refl (slotNames ys), (sym (ap length nothing), sym (ap (λ (s : List ℕ). bufferAfter s b) nothing))));
+          written = (sym (ap length nothing), sym (ap (λ (s : List ℕ). bufferAfter s b) nothing));
           fits = zero-le;
           slots-are = sym (keeps .0);
           registers-are = sym (keeps .1);
@@ -133,7 +132,7 @@ module _ (ys : List SlotRow) (zs : List RegisterRow) where
         handles l u v = record {
           outcome-is = outcome-is;
           state-is = p .state-is ∙ ap (λ (c : Call). stateByte (answerOf c .outcome)) same-call;
-          written = subst (λ (c : Call). LentResponded (c .slots) (answerOf c) b (r .length) after) same-call (p .written);
+          written = subst (λ (c : Call). Responded (answerOf c) b (r .length) after) same-call (p .written);
           fits = p .fits;
           slots-are = u;
           registers-are = v;

@@ -2,19 +2,18 @@
 -- afterwards.
 use Prim.Native.Nat.{ℕ, _≤_}
 use mathlib.Core.Path.{_≡_}
-use mathlib.Core.List.{List, []}
+use mathlib.Core.List.{List}
 use lib.ListN.{length}
 use denote.Ref.{RefT, now}
 use denote.Triple.Both.{Both}
 use Rattle.row_types.specs.declared.SlotRow.{SlotRow}
 use Rattle.row_types.specs.declared.RegisterRow.{RegisterRow}
 use Rattle.row_types.specs.declared.Supplement.{Supplement}
-use Rattle.engine.specs.Answers.{Answer, answerOf}
+use Rattle.engine.specs.Answers.{Answer, Responded, answerOf}
 use Rattle.engine.specs.Outcomes.{outcomeNumber}
 use Rattle.engine.specs.Words.{Input, Lent, callOf}
 use Rattle.entry_contracts.specs.Numbers.{stateByte}
 use Rattle.entry_contracts.specs.declared.Reply.{Reply}
-use Rattle.entry_contracts.specs.Lent.{LentResponded}
 
 -- a call: request, supplement and response buffer as they were handed in; afterwards the buffer, the outcome's number,
 -- the number of the slot state that the answer carries (255 where it carries none), and the length of the response
@@ -27,9 +26,9 @@ pub record Run : Type 0 where
   pub state : ℕ
   pub size : ℕ
 
--- what was handed in (the sequence of SM?GL's list is no part of it)
+-- what was handed in
 abbrev pub inputIn : Run → Input
-inputIn run = record { request = run .request; supplement = run .supplement; buffer = run .before; sequence = [] }
+inputIn run = record { request = run .request; supplement = run .supplement; buffer = run .before }
 
 -- the answer to it over the rows that are lent: the definition of which demand 3 is proved
 abbrev pub answerIn : Lent → Run → Answer
@@ -39,7 +38,7 @@ answerIn rows run = answerOf (callOf rows (inputIn run))
 pub record Handles (rows : Lent) (run : Run) (left : Lent) : Type 0 where
   pub outcome-is : run .outcome ≡ outcomeNumber (answerIn rows run .outcome)
   pub state-is : run .state ≡ stateByte (answerIn rows run .outcome)
-  pub written : LentResponded (rows .slots) (answerIn rows run) (run .before) (run .size) (run .after)
+  pub written : Responded (answerIn rows run) (run .before) (run .size) (run .after)
   pub fits : run .size ≤ length (run .before)
   pub slots-are : left .slots ≡ answerIn rows run .slots
   pub registers-are : left .registers ≡ answerIn rows run .registers

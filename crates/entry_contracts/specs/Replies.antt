@@ -4,8 +4,8 @@ use mathlib.Core.Path.{_≡_}
 use mathlib.Core.List.{List}
 use lib.ListN.{length}
 use Rattle.row_types.specs.declared.Tables.{Tables}
-use Rattle.engine.specs.Answers.{Answer}
-use Rattle.engine.specs.Calls.{Responded, tablesAfter}
+use Rattle.engine.specs.Answers.{Answer, Responded}
+use Rattle.engine.specs.Calls.{tablesAfter}
 use Rattle.engine.specs.Outcomes.{outcomeNumber}
 use Rattle.entry_contracts.specs.Numbers.{stateByte}
 use Rattle.entry_contracts.specs.declared.Reply.{Reply}
@@ -15,6 +15,6 @@ use Rattle.entry_contracts.specs.declared.Reply.{Reply}
 pub record Replies (t : Tables) (a : Answer) (before after : List ℕ) (reply : Reply) (left : Tables) : Type 0 where
   pub outcome-is : reply .outcome ≡ outcomeNumber (a .outcome)
   pub state-is : reply .state ≡ stateByte (a .outcome)
-  pub written : Responded t a before (reply .length) after
+  pub written : Responded a before (reply .length) after
   pub fits : reply .length ≤ length before
   pub tables-are : left ≡ tablesAfter t a

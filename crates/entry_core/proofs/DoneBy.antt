@@ -11,14 +11,14 @@ use Rattle.message_replies.specs.Responses.{responseBytes}
 use Rattle.row_types.specs.Places.{slotRows, registerRows}
 use Rattle.row_types.specs.Slots.{freeSlot}
 use Rattle.row_types.specs.Registers.{freeRegister}
-use Rattle.row_types.specs.RowReplies.{storedIn, slotNames, queryFields}
+use Rattle.row_types.specs.RowReplies.{storedIn, queryFields}
 use Rattle.row_types.specs.declared.SlotRow.{SlotRow}
 use Rattle.row_types.specs.declared.RegisterRow.{RegisterRow}
 use Rattle.row_types.specs.declared.Supplement.{Supplement}
 use Rattle.row_types.specs.declared.Tables.{Tables}
 use Rattle.engine.specs.Requests.{fieldsIn, registerIn, recordIn, slotIn, cardIn}
 use Rattle.engine.specs.Questions.{Call, placeIn, slotPlace, sessionPlace, slotNamed, registerNumbered}
-use Rattle.engine.specs.Answers.{Answer, response, accepted, cardPlace, refused, answered, listed, effect, answerOf}
+use Rattle.engine.specs.Answers.{Answer, response, accepted, cardPlace, refused, answered, effect, answerOf}
 use Rattle.engine.specs.Calls.{callIn}
 use Rattle.engine.specs.Decisions.{decisionOf}
 use Rattle.engine.specs.declared.Decision.{Decision}
@@ -34,7 +34,7 @@ pub effect-of : (c : Call) (d : Decision) → decisionOf c ≡ d → isRefuse d 
 effect-of c d e n = sym (granted-answer c d e n .answers)
 
 pub outcome-is : (c : Call) (d : Decision) → decisionOf c ≡ d → outcomeFor d ≡ answerOf c .outcome
-unfolding refused answered listed
+unfolding refused answered
 outcome-is c (Refuse r) e = rw (refused-answer c r e) refl
 outcome-is c Reset e = ap (λ (a : Answer). a .outcome) (effect-of c Reset e refl)
 outcome-is c (Start k) e = ap (λ (a : Answer). a .outcome) (effect-of c (Start k) e refl)
@@ -86,16 +86,10 @@ get-card-place c k e = ap placeFor (granted-answer c (GetCard k) e refl .grants)
 pub query-slot-place : (c : Call) (k : ℕ) → decisionOf c ≡ QuerySlot k → placeIn (c .slots) (slotPlace (slotIn KQ (fieldsIn (c .request))) (c .slots)) ≡ k
 query-slot-place c k e = ap placeFor (granted-answer c (QuerySlot k) e refl .grants)
 
--- the response, over tables by value; SM?GL's list is in the sequence of the rows
+-- the response, over tables by value
 module _ (t : Tables) (x : Supplement) (q : List ℕ) (room : ℕ) where
   abbrev k₀ : Call
   k₀ = callIn t x q room
-
-  abbrev names : List (List ℕ)
-  names = slotNames (slotRows t)
-
-  abbrev said : Answer → List ℕ
-  said a = response a names
 
   shown : (k : ℕ) → decisionOf k₀ ≡ GetCard k → getD (t .registers) k freeRegister ≡ registerNumbered (registerIn (fieldsIn q)) (registerRows t)
   shown k e =
@@ -110,16 +104,16 @@ module _ (t : Tables) (x : Supplement) (q : List ℕ) (room : ℕ) where
       let h : k < length (slotRows t) = rw (← w) (slot-below (slotIn KQ (fieldsIn q)) (slotRows t) (asked-of k₀ (QuerySlot k) e refl .known)) in
       rw w (getD-front (t .«slot_count») (t .slots) k freeSlot h)
 
-  pub response-is : (d : Decision) → decisionOf k₀ ≡ d → responseFor d t x q ≡ response (answerOf k₀) names
-  unfolding refused answered listed recordIn slotIn
+  pub response-is : (d : Decision) → decisionOf k₀ ≡ d → responseFor d t x q ≡ response (answerOf k₀)
+  unfolding refused answered recordIn slotIn
   response-is (Refuse r) e = rw (refused-answer k₀ r e) refl
-  response-is Reset e = ap said (effect-of k₀ Reset e refl)
-  response-is (Start k) e = ap said (effect-of k₀ (Start k) e refl)
-  response-is (Open k) e = ap said (effect-of k₀ (Open k) e refl)
-  response-is (Load k) e = rw (load-place k₀ k e) at (ap said (effect-of k₀ (Load k) e refl))
-  response-is (Close k) e = ap said (effect-of k₀ (Close k) e refl)
-  response-is (DeleteSlot k) e = ap said (effect-of k₀ (DeleteSlot k) e refl)
-  response-is (DeleteKey k) e = ap said (effect-of k₀ (DeleteKey k) e refl)
-  response-is (GetCard k) e = ap (λ (r : RegisterRow). responseBytes (headerOf q) accepted (string (storedIn r) ∷ [])) (shown k e) ∙ ap said (effect-of k₀ (GetCard k) e refl)
-  response-is ListSlots e = ap said (effect-of k₀ ListSlots e refl)
-  response-is (QuerySlot k) e = ap (λ (r : SlotRow). responseBytes (headerOf q) accepted (queryFields r (registerRows t))) (queried k e) ∙ ap said (effect-of k₀ (QuerySlot k) e refl)
+  response-is Reset e = ap response (effect-of k₀ Reset e refl)
+  response-is (Start k) e = ap response (effect-of k₀ (Start k) e refl)
+  response-is (Open k) e = ap response (effect-of k₀ (Open k) e refl)
+  response-is (Load k) e = rw (load-place k₀ k e) at (ap response (effect-of k₀ (Load k) e refl))
+  response-is (Close k) e = ap response (effect-of k₀ (Close k) e refl)
+  response-is (DeleteSlot k) e = ap response (effect-of k₀ (DeleteSlot k) e refl)
+  response-is (DeleteKey k) e = ap response (effect-of k₀ (DeleteKey k) e refl)
+  response-is (GetCard k) e = ap (λ (r : RegisterRow). responseBytes (headerOf q) accepted (string (storedIn r) ∷ [])) (shown k e) ∙ ap response (effect-of k₀ (GetCard k) e refl)
+  response-is ListSlots e = ap response (effect-of k₀ ListSlots e refl)
+  response-is (QuerySlot k) e = ap (λ (r : SlotRow). responseBytes (headerOf q) accepted (queryFields r (registerRows t))) (queried k e) ∙ ap response (effect-of k₀ (QuerySlot k) e refl)

@@ -1,7 +1,7 @@
 -- From the decision on a call to its answer, as the code puts it together: d is the decision, p the payload.
 use mathlib.Core.Path.{_≡_, refl, sym, ap, _∙_}
 use mathlib.Core.Bool.{true}
-use mathlib.Core.List.{List, Perm·refl}
+use mathlib.Core.List.{List}
 use Prim.Native.Nat.{ℕ, _≤_}
 use lib.ListN.{length, take}
 use native.Mathlib.Omega.{arith}
@@ -9,16 +9,14 @@ use Rattle.byte_strings.specs.Wrote.{Wrote}
 use Rattle.byte_strings.proofs.Writes.{from-start}
 use Rattle.field_values.specs.Values.{Value, valuesOf}
 use Rattle.message_frames.specs.Frames.{payloadOf}
-use Rattle.row_types.specs.Places.{slotRows}
-use Rattle.row_types.specs.RowReplies.{slotNames}
 use Rattle.row_types.specs.declared.Supplement.{Supplement}
 use Rattle.row_types.specs.declared.Tables.{Tables}
 use Rattle.row_types.specs.declared.SlotRow.{SlotRow}
 use Rattle.row_types.specs.declared.RegisterRow.{RegisterRow}
 use Rattle.row_index.specs.Lent.{tablesWith}
 use Rattle.engine.specs.Questions.{areCounts}
-use Rattle.engine.specs.Answers.{response, answerOf}
-use Rattle.engine.specs.Calls.{callIn, Responded, tablesAfter}
+use Rattle.engine.specs.Answers.{response, Responded, answerOf}
+use Rattle.engine.specs.Calls.{callIn, tablesAfter}
 use Rattle.engine.specs.Decisions.{decisionOf}
 use Rattle.decide_parts.specs.Parts.{IsDecided}
 use Rattle.decide_parts.specs.declared.Decided.{Decided}
@@ -75,9 +73,8 @@ module _ (slots : List SlotRow) (n : ℕ) (R : List RegisterRow) (m : ℕ) (x : 
       → tablesWith u n l m ≡ tablesAfter t (answerOf (callIn t x q room))
   rows-right p w u v l y = rw (v, y, w) (tables-are t x q room d (sym e))
 
-  -- the code lists the slots in the sequence of their rows
   pub responded : (p : List ℕ) → p ≡ payloadOf q → (l : List RegisterRow) → l ≡ registersAfter d m R x (valuesOf p) → (a b : List ℕ) (k : ℕ) → Wrote a 0 (responseFor d (tablesWith slots n l m) x q) b k → k ≤ length a
-      → Responded t (answerOf (callIn t x q room)) a k b
+      → Responded (answerOf (callIn t x q room)) a k b
   responded p i l y a b k w h =
-      let e′ : responseFor d (tablesWith slots n l m) x q ≡ response (answerOf (callIn t x q room)) (slotNames (slotRows t)) = rw y (same-response d slots n R m x (valuesOf p) q) ∙ response-is t x q room d (sym e) in
-      (slotNames (slotRows t), (Perm·refl (slotNames (slotRows t)), (omega (arith, w .next) ∙ ap length e′, rw e′ at (from-start w (omega (arith, w .next))))))
+      let e′ : responseFor d (tablesWith slots n l m) x q ≡ response (answerOf (callIn t x q room)) = rw y (same-response d slots n R m x (valuesOf p) q) ∙ response-is t x q room d (sym e) in
+      (omega (arith, w .next) ∙ ap length e′, rw e′ at (from-start w (omega (arith, w .next))))

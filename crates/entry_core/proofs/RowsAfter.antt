@@ -13,7 +13,7 @@ use Rattle.row_types.specs.declared.Supplement.{Supplement}
 use Rattle.row_types.specs.declared.Tables.{Tables}
 use Rattle.engine.specs.Requests.{fieldsIn, registerIn, recordIn, slotIn}
 use Rattle.engine.specs.Questions.{Call, placeIn, isPlace, slotPlace, slotNamed}
-use Rattle.engine.specs.Answers.{Answer, slotsMoved, slotsPending, slotsWithout, refused, answered, listed, effect, answerOf}
+use Rattle.engine.specs.Answers.{Answer, slotsMoved, slotsPending, slotsWithout, refused, answered, effect, answerOf}
 use Rattle.engine.specs.Calls.{callIn, tablesAfter}
 use Rattle.engine.specs.Decisions.{decisionOf}
 use Rattle.engine.specs.declared.Decision.{Decision}
@@ -60,7 +60,7 @@ module _ (t : Tables) (x : Supplement) (q : List ℕ) (room : ℕ) where
       rw (getD-front n (t .slots) k freeSlot h, w) (set-front n (t .slots) k (movedSlot a (getD (take n (t .slots)) k freeSlot)) h)
 
   pub tables-are : (d : Decision) → decisionOf c ≡ d → tablesFor d t x vs ≡ tablesAfter t (answerOf c)
-  unfolding refused answered listed recordIn slotIn slotsPending slotsWithout
+  unfolding refused answered recordIn slotIn slotsPending slotsWithout
   tables-are (Refuse r) e = rw (refused-answer c r e) (same-tables (refused c r) (Refuse r) slots-kept registers-kept)
   tables-are Reset e = same-tables (done Reset) Reset refl registers-kept ∙ ap (tablesAfter t) (effect-of c Reset e refl)
   tables-are (Start k) e =

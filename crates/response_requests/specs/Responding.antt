@@ -43,8 +43,7 @@ outcomeFor (GetCard k) = Done  -- SM?GA
 outcomeFor ListSlots = Done  -- SM?GL
 outcomeFor (QuerySlot k) = Done  -- SM?KQ
 
--- the fields of the response to an accepted request, as the clause of 001 that is named has them; SM?GL's are the slots
--- row by row
+-- the fields of the response to an accepted request, as the clause of 001 that is named has them
 abbrev pub fieldsFor : Decision → Tables → Supplement → List ℕ → List Value
 fieldsFor (Refuse r) t x q = []  -- not accepted
 fieldsFor Reset t x q = []  -- RS 6.2.7

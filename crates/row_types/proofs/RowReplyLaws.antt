@@ -1,8 +1,7 @@
 -- What the commands that only read rows tell of sound rows, PTVD fields can carry.
 use mathlib.Core.Path.{_≡_, refl, ap, _∙_}
-use mathlib.Core.Bool.{Bool, true, false, cond, not, _&&_, Bool-set}
-use mathlib.Core.List.{List, [], _∷_, _++_, map, Perm, List·Permᴰ, List·Permᴰ·nil, List·Permᴰ·cons, List·Permᴰ·swap, List·Permᴰ·trans}
-use mathlib.Core.Logic.{∥∥₁-elim}
+use mathlib.Core.Bool.{Bool, true, false, cond, not, _&&_}
+use mathlib.Core.List.{List, [], _∷_, _++_, map, List·Permᴰ, List·Permᴰ·nil, List·Permᴰ·cons, List·Permᴰ·swap, List·Permᴰ·trans}
 use Prim.Native.Nat.{ℕ, _+_, _≤_}
 use native.Mathlib.Omega.{arith}
 use lib.Dec.{eqb, leb}
@@ -11,6 +10,7 @@ use borrow.Author.Tests.{eqb-true, le-leb}
 use Rattle.byte_strings.specs.Texts.{text}
 use Rattle.byte_strings.specs.Strings.{isNot, run}
 use Rattle.byte_strings.proofs.Flags.{and-first, and-second, and-both}
+use Rattle.byte_orders.proofs.OrderLaws.{sort-perm}
 use Rattle.text_classes.specs.Classes.{areAll}
 use Rattle.text_classes.specs.Identifiers.{isIdentifier}
 use Rattle.text_classes.specs.declared.Class.the-variants.{Text, Hexadecimal, Zero}
@@ -59,8 +59,11 @@ names-carried (s ∷ ss) = ap (λ (b : Bool). areAll Text s && b) (names-carried
 abbrev pub notFree : List SlotRow → List SlotRow
 notFree rows = rowsThat (λ (r : SlotRow). not (hasState Free r)) rows
 
-names-text : (rows : List SlotRow) → everyRow isSlotSound rows ≡ true → everyRow (areAll Text) (slotNames rows) ≡ true
-unfolding slotNames
+-- the names, row by row
+abbrev pub namesIn : List SlotRow → List (List ℕ)
+namesIn rows = map kmcidOf (notFree rows)
+
+names-text : (rows : List SlotRow) → everyRow isSlotSound rows ≡ true → everyRow (areAll Text) (namesIn rows) ≡ true
 names-text [] e = refl
 names-text (x ∷ xs) e = go (hasState Free x) refl (names-text xs (and-second (isSlotSound x) (everyRow isSlotSound xs) e))
   where
@@ -68,28 +71,23 @@ names-text (x ∷ xs) e = go (hasState Free x) refl (names-text xs (and-second (
     go true q rest = rest
     go false q rest = and-both (areAll Text (kmcidOf x)) _ (in-form-text Name (kmcidOf x) (sound-kmcid x (and-first (isSlotSound x) (everyRow isSlotSound xs) e) q)) rest
 
--- SM?GL: the names of sound rows can be told,
-pub names-values : (rows : List SlotRow) → everyRow isSlotSound rows ≡ true → areValues (nameFields (slotNames rows)) ≡ true
-names-values rows e = names-carried (slotNames rows) ∙ names-text rows e
-
--- in any sequence
+-- what holds of every element holds of them in any sequence
 module _ {A : Type 0} (f : A → Bool) where
   and-turned : (a b c : Bool) → (a && (b && c)) ≡ (b && (a && c))
   and-turned true b c = refl
   and-turned false true c = refl
   and-turned false false c = refl
 
-  every-turned : {l m : List A} → List·Permᴰ l m → everyRow f l ≡ everyRow f m
+  pub every-turned : {l m : List A} → List·Permᴰ l m → everyRow f l ≡ everyRow f m
   every-turned List·Permᴰ·nil = refl
   every-turned (List·Permᴰ·cons e d) = rw (ap f e, every-turned d)
   every-turned (List·Permᴰ·swap {a′ = a} {b′ = b} {l = l} p q) = rw (ap f p, ap f q) (and-turned (f b) (f a) (everyRow f l))
   every-turned (List·Permᴰ·trans d e) = every-turned d ∙ every-turned e
 
-  pub every-sequence : {l m : List A} → Perm l m → everyRow f l ≡ everyRow f m
-  every-sequence {l} {m} p = ∥∥₁-elim p (Bool-set (everyRow f l) (everyRow f m)) every-turned
-
-pub sequence-values : (names : List (List ℕ)) (rows : List SlotRow) → Perm names (slotNames rows) → everyRow isSlotSound rows ≡ true → areValues (nameFields names) ≡ true
-sequence-values names rows p e = names-carried names ∙ every-sequence (areAll Text) p ∙ names-text rows e
+-- SM?GL: the names of sound rows can be told
+pub names-values : (rows : List SlotRow) → everyRow isSlotSound rows ≡ true → areValues (nameFields (slotNames rows)) ≡ true
+unfolding slotNames
+names-values rows e = names-carried (slotNames rows) ∙ every-turned (areAll Text) (sort-perm _ (namesIn rows)) ∙ names-text rows e
 
 -- SM?KQ: so can what a query tells of a sound row that is not free
 values-append : (p q : List Value) → areValues p ≡ true → areValues q ≡ true → areValues (p ++ q) ≡ true

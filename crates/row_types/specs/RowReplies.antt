@@ -2,8 +2,9 @@
 -- registers; 001 clauses 6.3.1, 6.3.2 and 6.3.8).
 use Prim.Native.Nat.{ℕ}
 use mathlib.Core.Bool.{cond, not}
-use mathlib.Core.List.{List, [], _∷_, _++_, map, Perm}
+use mathlib.Core.List.{List, [], _∷_, _++_, map}
 use Rattle.byte_strings.specs.Texts.{text}
+use Rattle.byte_orders.specs.Orders.{isBefore, sortedBy}
 use Rattle.field_values.specs.Values.{Value, number, string, octets}
 use Rattle.row_types.specs.Lists.{trimmed, rowsThat, numbersFrom}
 use Rattle.row_types.specs.Slots.{hasState, kmcidOf}
@@ -16,13 +17,9 @@ use Rattle.row_types.specs.declared.SlotState.the-variants.{Free, Pendin
 abbrev pub storedIn : RegisterRow → List ℕ
 storedIn r = trimmed (r .card)
 
--- SM?GL: the identifiers of the slots that are not free, row by row
+-- SM?GL: the identifiers of the slots that are not free, in ascending byte sequence (document 02, N1)
 unfoldable pub slotNames : List SlotRow → List (List ℕ)
-slotNames rows = map kmcidOf (rowsThat (λ r. not (hasState Free r)) rows)
-
--- SM?GL lists each of them once; their sequence is free
-abbrev pub InSomeSequence : List SlotRow → (List (List ℕ) → Type 0) → Type 0
-InSomeSequence rows P = (names : List (List ℕ)) × (Perm names (slotNames rows) × P names)
+slotNames rows = sortedBy isBefore (map kmcidOf (rowsThat (λ r. not (hasState Free r)) rows))
 
 abbrev pub nameFields : List (List ℕ) → List Value
 nameFields names = map string names

@@ -1,0 +1,32 @@
+-- The order of byte strings, and lists in the order of a test (document 02, N1).
+use Prim.Native.Nat.{ℕ}
+use mathlib.Core.Bool.{Bool, true, false, cond, _&&_, _||_}
+use mathlib.Core.List.{List, [], _∷_}
+use lib.Dec.{eqb, ltb}
+
+-- ascending byte sequence: the first byte that differs decides, and a string stands before its extensions
+abbrev pub isBefore : List ℕ → List ℕ → Bool
+isBefore [] [] = false
+isBefore [] (y ∷ ys) = true
+isBefore (x ∷ xs) [] = false
+isBefore (x ∷ xs) (y ∷ ys) = ltb x y || (eqb x y && isBefore xs ys)
+
+-- x among elements that stand in order: after those that are before it
+abbrev pub insertedBy : {A : Type 0} → (A → A → Bool) → A → List A → List A
+insertedBy before x [] = x ∷ []
+insertedBy before x (y ∷ ys) = cond (before y x) (y ∷ insertedBy before x ys) (x ∷ y ∷ ys)
+
+-- the elements in order
+abbrev pub sortedBy : {A : Type 0} → (A → A → Bool) → List A → List A
+sortedBy before [] = []
+sortedBy before (x ∷ xs) = insertedBy before x (sortedBy before xs)
+
+-- an element is before every one of a list
+abbrev pub isBeforeEach : {A : Type 0} → (A → A → Bool) → A → List A → Bool
+isBeforeEach before x [] = true
+isBeforeEach before x (y ∷ ys) = before x y && isBeforeEach before x ys
+
+-- each element is before all that follow it
+abbrev pub isAscending : {A : Type 0} → (A → A → Bool) → List A → Bool
+isAscending before [] = true
+isAscending before (x ∷ xs) = isBeforeEach before x xs && isAscending before xs
