@@ -27,9 +27,9 @@ extern "C" {
 
 /* The version of this header and of the library that goes with it (CHANGELOG.md). */
 #define DIMINUREL_VERSION_MAJOR 0
-#define DIMINUREL_VERSION_MINOR 1
+#define DIMINUREL_VERSION_MINOR 2
 #define DIMINUREL_VERSION_PATCH 0
-#define DIMINUREL_VERSION "0.1.0"
+#define DIMINUREL_VERSION "0.2.0"
 
 /* Rows of each kind: 1 to these, else refusal 1. */
 #define DIMINUREL_SLOTS_MAX 8
@@ -86,7 +86,8 @@ enum diminurel_outcome {
     DIMINUREL_REFUSED_EMPTY_REGISTER = 21
 };
 
-/* A slot row. All zero is free. */
+/* A slot row. All zero is free. SM?GL lists the slots in ascending byte sequence of their kmcid, a shorter one before
+ * its extensions, whichever rows they have. */
 typedef struct {
     uint8_t state; /* of enum diminurel_state */
     uint8_t kmcid[DIMINUREL_KMCID_MAX]; /* zeros after it */

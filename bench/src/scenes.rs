@@ -22,6 +22,8 @@ struct Content {
     title: &'static str,
     /// What a slot's name has before its four digits.
     name: &'static str,
+    /// Whether the numbers of the names go down from row to row.
+    descending: bool,
     /// How many registers, one after the other, are under the same slot.
     block: usize,
     /// ACT, BDT and IUT.
@@ -33,6 +35,7 @@ struct Content {
 const EXAMPLES: Content = Content {
     title: "",
     name: "Example-KMC-",
+    descending: false,
     block: 1,
     moments: &[["20130716T151031Z", "20130716T151031Z", "20380119T031407Z"]],
     numbers: &[["255", "999999999", "0"]],
@@ -42,6 +45,9 @@ const BLOCKS: Content = Content { title: ", registers in blocks", block: 4, ..EX
 
 const LONG_NAMES: Content =
     Content { title: ", names of 40 bytes", name: "Example-Key-Management-Centre-North-", ..EXAMPLES };
+
+/// No row is where SM?GL lists it.
+const DESCENDING: Content = Content { title: ", rows descending", descending: true, ..LONG_NAMES };
 
 const LATE_DAYS: Content = Content {
     title: ", days after the 28th",
@@ -75,6 +81,7 @@ const MIXED: Content = Content {
     title: ", all of these",
     block: BLOCKS.block,
     name: LONG_NAMES.name,
+    descending: false,
     moments: LATE_DAYS.moments,
     numbers: OTHER_NUMBERS.numbers,
 };
@@ -151,7 +158,8 @@ fn spoilt(mut request: Vec<u8>) -> Vec<u8> {
 
 impl Content {
     fn name(&self, place: usize) -> Vec<u8> {
-        format!("{}{:04}", self.name, place + 1).into_bytes()
+        let number = if self.descending { 9999 - place } else { place + 1 };
+        format!("{}{number:04}", self.name).into_bytes()
     }
 
     fn stored(&self, place: usize, slot: &[u8]) -> Vec<u8> {
@@ -270,13 +278,15 @@ impl Filling {
     }
 }
 
-/// Each command, a mixed history and `usable`, over each filling; then four commands over each further content.
+/// Each command, a mixed history and `usable`, over each filling; then four commands over each further content, and the
+/// list that has the most to put in sequence.
 pub fn all() -> Vec<Scene> {
     let mut scenes: Vec<Scene> = FILLINGS.into_iter().flat_map(Filling::scenes).collect();
     for content in FURTHER {
         let full = Filling { content, ..FULL };
         scenes.extend([Command::RS, Command::KC, Command::KR, Command::KL].map(|command| full.accepted(command)));
     }
+    scenes.push(Filling { content: DESCENDING, ..FULL }.accepted(Command::GL));
     scenes
 }
 

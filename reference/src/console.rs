@@ -24,7 +24,7 @@
 
 use crate::harness::{hex, requests, tables::Tables};
 use crate::rows::{self, RegisterRow, SlotRow};
-use crate::{crc, handle, text, usable, Supplement};
+use crate::{handle, text, usable, Supplement};
 use std::io::{self, BufRead, Read, Write};
 
 const LONGEST_LINE: usize = 4096;
@@ -219,27 +219,6 @@ pub fn slot_line(number: usize, row: &SlotRow) -> String {
 
 pub fn register_line(number: usize, row: &RegisterRow) -> String {
     format!("register {number} {}", hex(&row.card))
-}
-
-/// A printed line in which the fields of an accepted SM?GL are sorted, with the checksum of the sorted ones: their
-/// sequence is open (document 01, "Slots and registers"). Any other line stays, also a list whose checksum is wrong.
-pub fn with_list_sorted(line: &[u8]) -> Vec<u8> {
-    list_sorted(line).unwrap_or_else(|| line.to_vec())
-}
-
-fn list_sorted(line: &[u8]) -> Option<Vec<u8>> {
-    let [_, b"0", b"-", response] = words(line)? else { return None };
-    let (covered, checksum) = response.split_at_checked(response.len().checked_sub(4)?)?;
-    let list = covered.strip_prefix(b"SM!GL00")?;
-    if checksum != crc::digits(crc::arc(covered)) {
-        return None;
-    }
-    let mut fields: Vec<&[u8]> = list.split_inclusive(|&byte| byte == b'~').collect();
-    fields.sort();
-    let mut sorted = line[..line.len() - response.len()].to_vec();
-    sorted.extend(requests::frame(b"SM!GL00", &fields.concat()));
-    sorted.pop();
-    Some(sorted)
 }
 
 /// Exactly `N` words, split by one space.

@@ -417,10 +417,12 @@ fn carry_out(
             reply.string(cards::written(&registers[*register].card));
             None
         }
-        // The sequence is open; here it is that of the rows.
+        // Ascending byte sequence, a shorter identifier before its extensions (document 02, N1): as slices compare.
         Decision::List => {
-            for slot in slots.iter().filter(|slot| !slot.is_free()) {
-                reply.string(slot.name());
+            let mut names: Vec<&[u8]> = slots.iter().filter(|slot| !slot.is_free()).map(SlotRow::name).collect();
+            names.sort();
+            for name in names {
+                reply.string(name);
             }
             None
         }

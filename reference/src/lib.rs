@@ -1,5 +1,5 @@
 //! A second implementation of the vending module's key-management engine,
-//! written from document 01, STS 600-8-6 ("001") and STS 600-4-2 ("003"),
+//! written from documents 01 and 02, STS 600-8-6 ("001") and STS 600-4-2 ("003"),
 //! and a harness that compares another engine with it, call by call.
 //!
 //! Read `engine` first: it asks the eighteen questions of document 01 in order.

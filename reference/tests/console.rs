@@ -1,6 +1,6 @@
 //! The console's lines: each form, each way to be in none, counts and lengths at their edges, any bytes.
 
-use reference::console::{self, with_list_sorted, Console};
+use reference::console::{self, Console};
 use reference::harness::generator::Generator;
 use reference::harness::random_script::random_script;
 use reference::harness::tables::Tables;
@@ -500,26 +500,13 @@ fn random_scripts() {
     assert!(no_form > 0 && yes > 0 && no > 0 && rows > 0);
 }
 
-/// Sorted, lists of the same slots are one line; a wrong checksum, a missing slot and any other line stay what they are.
+/// A list is in ascending byte sequence, whichever rows the slots have (document 02, N1).
 #[test]
-fn lists_sorted() {
-    let list = |fields: &str| {
-        let response = requests::frame(b"SM!GL00", fields.as_bytes());
-        format!("12 0 - {}", String::from_utf8_lossy(&response[..response.len() - 1]))
-    };
-    let sorted = |line: &str| String::from_utf8(with_list_sorted(line.as_bytes())).unwrap();
-    assert_eq!(sorted(&list("PB~PA~PC~")), list("PA~PB~PC~"));
-    assert_eq!(sorted(&list("PA~PB~PC~")), list("PA~PB~PC~"));
-    assert_eq!(sorted(&list("")), list(""));
-    assert_ne!(sorted(&list("PB~PA~")), sorted(&list("PB~PA~PA~")));
-    let wrong = list("PB~PA~").replace("PB~PA~", "PA~PB~");
-    assert_eq!(sorted(&wrong), wrong);
-    for line in ["", " ", "12 ?", "12 0 - SM!GL00", "12 0 - SM!", "12 0 - -", "12 0 - GL!RS00B271", "rows of any kind"]
-    {
-        assert_eq!(sorted(line), line);
-    }
-    let query = String::from_utf8(requests::frame(b"SM!KQ00", b"PB~PA~")).unwrap();
-    let query = format!("12 0 - {}", query.trim_end());
-    assert_eq!(sorted(&query), query);
+fn lists() {
     assert_eq!(last("send SM?GL"), "0 - SM!GL00A811");
+    for rows in [["a", "B", "AB", "Z", "A"], ["A", "AB", "B", "Z", "a"], ["AB", "A", "Z", "a", "B"]] {
+        let places = [1, 3, 4, 6, 8].into_iter().zip(rows);
+        let script: String = places.map(|(place, name)| slot(place, 3, name, "AAAAAAAAAAAAAAAA", "") + "\n").collect();
+        assert_eq!(last(&(script + "send SM?GL")), "0 - SM!GL00PA~PAB~PB~PZ~Pa~62A4");
+    }
 }

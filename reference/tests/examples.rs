@@ -131,9 +131,10 @@ fn clause_6_3_1_list() {
     tables.put_slot(1, IDLE, b"KMCnameUpTo40chars", b"8E22231BC992010A", b"");
     assert_eq!(ask(&mut tables, &plain(), &list).1, "SM!GL00PKMCnameUpTo40chars~");
     let mut tables = Tables::empty(4, 1);
-    tables.put_slot(0, PENDING, b"KMCname01", b"8E22231BC992010A", b"20130401T120011Z");
+    // The paper's three are in the sequence of document 02, N1; the rows are in another.
+    tables.put_slot(0, IDLE, b"kmc_name03", b"8E22231BC992010A", b"");
     tables.put_slot(2, LOADING, b"kmc_name02", b"8E22231BC992010A", b"");
-    tables.put_slot(3, IDLE, b"kmc_name03", b"8E22231BC992010A", b"");
+    tables.put_slot(3, PENDING, b"KMCname01", b"8E22231BC992010A", b"20130401T120011Z");
     assert_eq!(ask(&mut tables, &plain(), &list).1, "SM!GL00PKMCname01~Pkmc_name02~Pkmc_name03~");
 }
 

@@ -5,7 +5,9 @@
 use reference::console::{self, row_lines};
 use reference::demand3::{self, Word};
 use reference::harness::tables::Tables;
-use reference::harness::{history, parts, requests, run, scenes, try_run, Bench, Engine, Failure, Reference};
+use reference::harness::{
+    history, parts, requests, run, scenes, try_fixed, try_fuzz, try_run, Bench, Engine, Failure, Reference,
+};
 use reference::rows::{IDLE, LOADING, PENDING};
 use reference::{cards, Command, RegisterRow, SlotRow, Supplement};
 
@@ -159,20 +161,27 @@ fn a_read_closes_sessions(call: &mut Call) -> Response {
     answer
 }
 
-/// Changes the fields of a command's accepted responses.
-fn rewritten(call: &mut Call, command: Command, change: fn(&mut Vec<&[u8]>)) -> Response {
+/// Makes another payload of that of a command's accepted responses.
+fn remade(call: &mut Call, command: Command, other: impl Fn(&Call, &[u8]) -> Vec<u8>) -> Response {
     let before = call.response.to_vec();
     let answer = call.right();
     if answer.0 > 0 || !call.request.starts_with(command.header()) {
         return answer;
     }
     let (head, payload) = call.response[..answer.2 - 5].split_at(7);
-    let mut fields: Vec<&[u8]> = payload.split_inclusive(|&byte| byte == b'~').collect();
-    change(&mut fields);
-    let message = requests::frame(head, &fields.concat());
+    let message = requests::frame(head, &other(call, payload));
     call.response.copy_from_slice(&before);
     call.response[..message.len()].copy_from_slice(&message);
     (answer.0, answer.1, message.len())
+}
+
+/// Changes the fields of a command's accepted responses.
+fn rewritten(call: &mut Call, command: Command, change: fn(&mut Vec<&[u8]>)) -> Response {
+    remade(call, command, |_, payload| {
+        let mut fields: Vec<&[u8]> = payload.split_inclusive(|&byte| byte == b'~').collect();
+        change(&mut fields);
+        fields.concat()
+    })
 }
 
 /// In place of the second, so that names of one length make a list of the right length.
@@ -190,8 +199,50 @@ fn gl_leaves_one_out(call: &mut Call) -> Response {
     })
 }
 
-fn gl_lists_backwards(call: &mut Call) -> Response {
-    rewritten(call, Command::GL, |fields| fields.reverse())
+/// Lists the slots row by row, and then puts the names into a sequence of its own.
+fn relisted(call: &mut Call, order: fn(&mut [&[u8]])) -> Response {
+    remade(call, Command::GL, |call, _| {
+        let rows = &call.slots[..call.counts.0];
+        let mut names: Vec<&[u8]> = rows.iter().filter(|slot| !slot.is_free()).map(SlotRow::name).collect();
+        order(&mut names);
+        names.into_iter().flat_map(requests::string).collect()
+    })
+}
+
+fn gl_lists_row_by_row(call: &mut Call) -> Response {
+    relisted(call, |_| ())
+}
+
+fn gl_lists_descending(call: &mut Call) -> Response {
+    relisted(call, |names| {
+        names.sort();
+        names.reverse();
+    })
+}
+
+/// As if a byte above all others ended a name.
+fn gl_lists_an_extension_first(call: &mut Call) -> Response {
+    relisted(call, |names| names.sort_by_key(|name| [*name, &[0xFF]].concat()))
+}
+
+fn gl_goes_by_the_first_byte(call: &mut Call) -> Response {
+    relisted(call, |names| names.sort_by_key(|name| name[0]))
+}
+
+fn gl_goes_by_length_first(call: &mut Call) -> Response {
+    relisted(call, |names| names.sort_by_key(|name| (name.len(), name.to_vec())))
+}
+
+fn gl_ignores_case(call: &mut Call) -> Response {
+    relisted(call, |names| names.sort_by_key(|name| name.to_ascii_lowercase()))
+}
+
+/// Right but for the last row, which it puts last.
+fn gl_leaves_the_last_row_last(call: &mut Call) -> Response {
+    relisted(call, |names| {
+        let last = names.len().saturating_sub(1);
+        names[..last].sort();
+    })
 }
 
 /// The current fingerprint and the new one change places.
@@ -247,8 +298,6 @@ fn the_comparison_finds_the_rest() {
         ("a bad tag closes the session", bad_tag_closes_the_session as Handle, false),
         ("a byte past the response", writes_past_its_response, false),
         ("all refused", refuses_all, false),
-        ("GL lists a slot twice", gl_lists_a_slot_twice, false),
-        ("GL leaves one out", gl_leaves_one_out, false),
         ("KQ tells the new fingerprint as current", kq_tells_the_new_fingerprint_as_current, false),
         ("PENDING vends", |call| call.right(), true),
     ] {
@@ -259,10 +308,31 @@ fn the_comparison_finds_the_rest() {
     }
 }
 
-/// The sequence of SM?GL's list is free, and no difference.
+/// SM?GL's list is fixed byte for byte (document 02, N1). Fixed parts and random calls each find every other one.
 #[test]
-fn a_list_may_run_backwards() {
-    try_run(&mut Wrong(gl_lists_backwards, false), 2000, 7).unwrap();
+fn another_list_is_a_difference() {
+    let right = |call: &mut Call| relisted(call, |names| names.sort());
+    try_run(&mut Wrong(right, false), 2000, 7).unwrap();
+    for (name, engine) in [
+        ("row by row", gl_lists_row_by_row as Handle),
+        ("descending", gl_lists_descending),
+        ("an extension before its beginning", gl_lists_an_extension_first),
+        ("by the first byte only", gl_goes_by_the_first_byte),
+        ("by length first", gl_goes_by_length_first),
+        ("without case", gl_ignores_case),
+        ("the last row last", gl_leaves_the_last_row_last),
+        ("one left out", gl_leaves_one_out),
+        ("one twice", gl_lists_a_slot_twice),
+    ] {
+        assert!(demand_3(engine).is_ok(), "{name}");
+        for (calls, run) in
+            [("fixed", try_fixed(&mut Wrong(engine, false))), ("random", try_fuzz(&mut Wrong(engine, false), 4000, 7))]
+        {
+            let difference = run.expect_err(&format!("{name}, {calls}")).text;
+            println!("{name}, {calls}: {}", difference.lines().next().unwrap_or_default());
+            assert!(difference.starts_with("difference in call"), "{name}, {calls}: {difference}");
+        }
+    }
 }
 
 /// An engine, and what the right one says to its last call or question, as the console prints it: a call's rows too.
@@ -330,6 +400,7 @@ fn a_difference_is_replayed_by_its_script() {
         ("a byte past the response", writes_past_its_response, false),
         ("all refused", refuses_all, false),
         ("GL lists a slot twice", gl_lists_a_slot_twice, false),
+        ("GL lists row by row", gl_lists_row_by_row, false),
         ("KX leaves the keys", kx_leaves_keys, false),
         ("PENDING vends", |call| call.right(), true),
     ] {

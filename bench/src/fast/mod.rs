@@ -12,7 +12,7 @@ mod text;
 
 use incoming::Card;
 use records::Identity;
-use reference::rows::{FREE, IDLE, LOADING, PENDING};
+use reference::rows::{FREE, IDLE, LOADING, MOST_SLOTS, PENDING};
 use reference::{Answer, RegisterRow, SlotRow, Supplement};
 use reply::Reply;
 use rows::Known;
@@ -311,11 +311,24 @@ impl<'a> Call<'a> {
         Ok((None, length))
     }
 
+    /// Ascending byte sequence, a shorter identifier before its extensions (document 02, N1), by insertion: slices
+    /// compare so.
     fn list(&mut self, payload: &'a [u8]) -> Asked {
         nothing(payload)?;
+        let mut names: [&[u8]; MOST_SLOTS] = [&[]; MOST_SLOTS];
+        let mut count = 0;
+        for name in self.slots.iter().filter(|row| row.state != FREE).map(Self::name) {
+            let mut place = count;
+            while place > 0 && names[place - 1] > name {
+                names[place] = names[place - 1];
+                place -= 1;
+            }
+            names[place] = name;
+            count += 1;
+        }
         let mut reply = Reply::new(self.response, self.header, b"00");
-        for row in self.slots.iter().filter(|row| row.state != FREE) {
-            reply.string(Self::name(row));
+        for name in &names[..count] {
+            reply.string(name);
         }
         Ok((None, reply.end()))
     }

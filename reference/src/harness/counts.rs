@@ -3,7 +3,7 @@
 use super::kinds::{self, BAD_PARTS, UNSOUND};
 use super::tables::Tables;
 use super::{Failure, LONGEST_BUFFER};
-use crate::rows::{MOST_REGISTERS, MOST_SLOTS};
+use crate::rows::{IDLE, LOADING, MOST_REGISTERS, MOST_SLOTS, PENDING};
 use crate::{Command, Supplement};
 use std::fmt;
 
@@ -29,6 +29,10 @@ pub struct Counts {
     pub outcomes: [u64; 22],
     /// The same for each command, in the sequence of `Command::ALL`.
     pub commands: [[u64; 22]; 10],
+    /// Accepted SM?GL by how many slots are listed: where the rows have the list's sequence already, and where not.
+    pub lists: [[u64; 2]; MOST_SLOTS + 1],
+    /// Accepted SM?GL in which a slot's name is the beginning of the next one's.
+    pub extensions: u64,
     /// Answers of `usable`: no, yes.
     pub usable: [u64; 2],
     /// Calls by slot count and register count.
@@ -54,6 +58,8 @@ impl Counts {
             seed,
             outcomes: [0; 22],
             commands: [[0; 22]; 10],
+            lists: [[0; 2]; MOST_SLOTS + 1],
+            extensions: 0,
             usable: [0; 2],
             row_counts: [[0; MOST_REGISTERS + 2]; MOST_SLOTS + 2],
             buffers: [0; LONGEST_BUFFER + 1],
@@ -78,6 +84,9 @@ impl Counts {
         }
         if let Some(place) = Command::ALL.iter().position(|command| request.starts_with(command.header())) {
             self.commands[place][usize::from(outcome)] += 1;
+            if outcome == 0 && Command::ALL[place] == Command::GL {
+                self.count_list(tables);
+            }
         }
         self.row_counts[tables.slot_count][tables.register_count] += 1;
         self.buffers[buffer] += 1;
@@ -86,6 +95,13 @@ impl Counts {
             4 => self.count_bad_part(supplement),
             _ => {}
         }
+    }
+
+    fn count_list(&mut self, tables: &Tables) {
+        let mut names = tables.names_in(&[PENDING, LOADING, IDLE]);
+        self.lists[names.len()][usize::from(!names.is_sorted())] += 1;
+        names.sort();
+        self.extensions += u64::from(names.windows(2).any(|pair| pair[1].starts_with(&pair[0])));
     }
 
     /// Of several faults none is known to be the one that was seen.
@@ -118,6 +134,13 @@ impl Counts {
                 ask(counts[*outcome], format!("outcome {outcome} of {}", name(command)));
             }
         }
+        for (slots, &[same, other]) in self.lists.iter().enumerate() {
+            ask(same, format!("list of {slots} slots in the sequence of the rows"));
+            if slots > 1 {
+                ask(other, format!("list of {slots} slots in another sequence than the rows"));
+            }
+        }
+        ask(self.extensions, "list with a name that is the beginning of the next".to_string());
         for (answer, &count) in ["no", "yes"].iter().zip(&self.usable) {
             ask(count, format!("usable {answer}"));
         }
@@ -175,6 +198,10 @@ impl fmt::Display for Counts {
         writeln!(out, "  row counts: {}", spread(self.row_counts.iter().flatten()))?;
         writeln!(out, "  buffer lengths: {}", spread(self.buffers.iter()))?;
         writeln!(out, "  rows with a fault alone: {}", spread(self.unsound_rows.iter()))?;
+        writeln!(out, "  lengths of lists: {}", spread(self.lists.iter().map(|[same, _]| same)))?;
+        let others = spread(self.lists.iter().skip(2).map(|[_, other]| other));
+        writeln!(out, "  lengths of lists in another sequence than the rows: {others}")?;
+        writeln!(out, "  lists with a name that is the beginning of the next: {}", self.extensions)?;
         writeln!(out, "calls and acceptances")?;
         for (command, counts) in Command::ALL.iter().zip(self.commands) {
             writeln!(out, "  {} {:>9} {:>9}", name(command), counts.iter().sum::<u64>(), counts[0])?;
@@ -201,6 +228,8 @@ mod tests {
         let counts = Counts {
             outcomes: [1; 22],
             commands: [[1; 22]; 10],
+            lists: [[1; 2]; MOST_SLOTS + 1],
+            extensions: 1,
             usable: [1; 2],
             row_counts: [[1; MOST_REGISTERS + 2]; MOST_SLOTS + 2],
             buffers: [1; LONGEST_BUFFER + 1],
@@ -217,6 +246,14 @@ mod tests {
         };
         assert_eq!(told(&|counts| counts.outcomes[18] = 0), "never came up: outcome 18");
         assert_eq!(told(&|counts| counts.commands[5][12] = 0), "never came up: outcome 12 of SM?KX");
+        let list = "never came up: list of 8 slots in another sequence than the rows";
+        assert_eq!(told(&|counts| counts.lists[8][1] = 0), list);
+        assert_eq!(
+            told(&|counts| counts.lists[0][0] = 0),
+            "never came up: list of 0 slots in the sequence of the rows"
+        );
+        let extension = "never came up: list with a name that is the beginning of the next";
+        assert_eq!(told(&|counts| counts.extensions = 0), extension);
         assert_eq!(told(&|counts| counts.usable[1] = 0), "never came up: usable yes");
         assert_eq!(told(&|counts| counts.row_counts[9][33] = 0), "never came up: 9 slots and 33 registers");
         assert_eq!(told(&|counts| counts.buffers[1023] = 0), "never came up: buffer of 1023 bytes");

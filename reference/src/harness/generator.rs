@@ -47,6 +47,12 @@ impl Generator {
         &choices[self.below(choices.len())]
     }
 
+    pub fn shuffle<T>(&mut self, items: &mut [T]) {
+        for last in (1..items.len()).rev() {
+            items.swap(last, self.below(last + 1));
+        }
+    }
+
     /// `length` capital hexadecimal digits.
     pub fn hex(&mut self, length: usize) -> Vec<u8> {
         (0..length).map(|_| b"0123456789ABCDEF"[self.below(16)]).collect()

@@ -9,6 +9,7 @@ pub mod generator;
 pub mod history;
 pub mod identities;
 pub mod kinds;
+pub mod lists;
 pub mod parts;
 pub mod places;
 pub mod random_script;
@@ -19,7 +20,7 @@ pub mod tables;
 pub mod world;
 
 use crate::demand3::{self, Word};
-use crate::{handle, rows, usable, Command, RegisterRow, SlotRow, Supplement};
+use crate::{handle, rows, usable, RegisterRow, SlotRow, Supplement};
 pub use counts::Counts;
 use generator::Generator;
 use script::{Call, Replay};
@@ -227,11 +228,7 @@ impl<'a> Bench<'a> {
         if after.registers != tables.registers {
             wrong.push("register rows".to_string());
         }
-        let (expected, beyond) = self.expected.split_at(answer.length);
-        let (got, got_beyond) = self.got.split_at(answer.length);
-        let list = answer.outcome == 0 && request.starts_with(Command::GL.header());
-        let same = if list { sorted(got).is_some() && sorted(expected) == sorted(got) } else { expected == got };
-        if !same || beyond != got_beyond {
+        if self.expected != self.got {
             wrong.push("response buffer".to_string());
         }
         if !wrong.is_empty() {
@@ -334,16 +331,6 @@ impl<'a> Bench<'a> {
     }
 }
 
-/// The fields of a response sorted, after its header and status; nothing when its checksum is wrong.
-/// The sequence of SM?GL's list is open (document 01, "Slots and registers").
-fn sorted(response: &[u8]) -> Option<(&[u8], Vec<&[u8]>)> {
-    let covered = &response[..response.len() - 5];
-    let (head, payload) = covered.split_at(7);
-    let mut fields: Vec<&[u8]> = payload.split_inclusive(|&byte| byte == b'~').collect();
-    fields.sort();
-    (requests::frame(head, payload) == response).then_some((head, fields))
-}
-
 fn describe(before: &Tables, supplement: &Supplement, request: &[u8], buffer: usize, filling: &[u8]) -> String {
     format!(
         "slot count {}, register count {}, buffer {buffer}\nrequest {}\n        {}\nclock {}\nidentity {} {}\nload request {} {}\ntag {}\ncheck {}\npassed {}\nbuffer before {}\nrows before\n{}",
@@ -408,9 +395,10 @@ pub fn try_fuzz(engine: &mut dyn Engine, calls: u64, seed: u64) -> Result<Counts
 /// The shorter parts come first, so that most faults are found at once.
 fn fixed_parts(bench: &mut Bench) -> Result<(), String> {
     type Part = fn(&mut Bench) -> Result<(), String>;
-    let parts: [(&'static str, Part); 13] = [
+    let parts: [(&'static str, Part); 14] = [
         ("named cases", parts::named_cases),
         ("first questions", parts::first_questions),
+        ("lists", lists::lists),
         ("identities", identities::identities),
         ("card values", card_values::card_values),
         ("places", places::places),

@@ -284,7 +284,7 @@ pub(super) fn long_name(place: usize) -> Vec<u8> {
     format!("{place}{}", "k".repeat(39)).into_bytes()
 }
 
-/// SM?KQ, SM?GL, SM?GA and `usable` over rows chosen for them.
+/// SM?KQ, SM?GA and `usable` over rows chosen for them.
 pub fn reading(bench: &mut Bench) -> Result<(), String> {
     let supplement = scenes::supplement();
     let states = [PENDING, LOADING, IDLE];
@@ -293,18 +293,6 @@ pub fn reading(bench: &mut Bench) -> Result<(), String> {
             for keys in 0..=32 {
                 two_slots(bench, state, other, keys)?;
             }
-        }
-    }
-    // Lists: every choice of eight rows.
-    for choice in 0..=u8::MAX {
-        let mut tables = Tables::empty(8, 1);
-        for place in (0..8).filter(|place| choice >> place & 1 == 1) {
-            put_slot(&mut tables, place, states[place % 3], &long_name(place));
-        }
-        bench.expect(0, &mut tables, &supplement, &requests::bare(Command::GL), 1024)?;
-        let listed = bench.answer().iter().filter(|&&byte| byte == b'~').count();
-        if listed != choice.count_ones() as usize {
-            return Err(format!("{listed} slots listed of the rows {choice:08b}"));
         }
     }
     // The longest card and the shortest.

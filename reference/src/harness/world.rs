@@ -8,15 +8,24 @@ use super::tables::Tables;
 use crate::rows::{self, FREE, IDLE, LOADING, PENDING};
 use crate::{cards, Command, Supplement};
 
-/// Some names are the start of others, and five fill their place in a row.
-const CENTRES: [&[u8]; 8] = [
-    b"KMC",
-    b"KMC1",
-    b"k-234567890_234567890.234567890,23456789",
-    b"K",
-    b"k-234567890_234567890.234567890,2345678A",
-    b"KMC-567890123456789012345678901234567890",
+/// Most names share a beginning, also all of a shorter name, and differ after it in a byte of each kind, so that a list
+/// in another sequence shows (document 02, N1). Five fill their place in a row.
+const CENTRES: [&[u8]; 16] = [
+    b"0",
     b"0000000000000000000000000000000000000000",
+    b"K",
+    b"KMC",
+    b"KMC,1",
+    b"KMC-567890123456789012345678901234567890",
+    b"KMC.1",
+    b"KMC1",
+    b"KMC10",
+    b"KMCA",
+    b"KMC_1",
+    b"KMCa",
+    b"k-234567890_234567890.234567890,2345678",
+    b"k-234567890_234567890.234567890,23456789",
+    b"k-234567890_234567890.234567890,2345678A",
     b"kmc-567890123456789012345678901234567890",
 ];
 const GROUPS: [&str; 3] = ["0000123456", "0000123457", "9999999999"];
@@ -30,6 +39,8 @@ pub fn own_identity() -> Vec<u8> {
 
 pub struct World {
     pub generator: Generator,
+    /// The centres' names in a sequence that each history has of its own.
+    names: [&'static [u8]; CENTRES.len()],
     /// How many centres the requests take, and supply groups and revisions the cards.
     centres: usize,
     groups: usize,
@@ -40,7 +51,7 @@ pub struct World {
 
 impl World {
     pub fn new(seed: u64) -> Self {
-        World { generator: Generator::new(seed), centres: 3, groups: 3, revisions: 3, sent: Vec::new() }
+        World { generator: Generator::new(seed), names: CENTRES, centres: 3, groups: 3, revisions: 3, sent: Vec::new() }
     }
 
     /// Empty tables for a new history: small ones, sometimes up to the largest.
@@ -53,8 +64,9 @@ impl World {
 
     fn empty(&mut self, slots: usize, registers: usize) -> Tables {
         self.sent.clear();
+        self.generator.shuffle(&mut self.names);
         // More centres than slots and more keys than registers in large tables too.
-        self.centres = if slots > 3 && self.generator.chance(70) { 8 } else { 3 };
+        self.centres = if slots > 3 && self.generator.chance(70) { 9 } else { 3 };
         (self.groups, self.revisions) = if registers > 9 && self.generator.chance(70) { (9, 9) } else { (3, 3) };
         Tables::empty(slots, registers)
     }
@@ -63,7 +75,7 @@ impl World {
     pub fn filled(&mut self) -> Tables {
         let (slots, registers) = (self.generator.between(1, 8), self.generator.between(1, 32));
         let mut tables = self.empty(slots, registers);
-        for (place, name) in CENTRES.iter().enumerate().take(slots) {
+        for (place, name) in self.names.into_iter().enumerate().take(slots) {
             let state = *self.generator.pick(&[FREE, PENDING, LOADING, IDLE, IDLE]);
             if state != FREE {
                 let tvp = self.generator.timestamp();
@@ -203,7 +215,7 @@ impl World {
 
     fn begin(&mut self, supplement: &Supplement) -> Vec<u8> {
         let forged = if self.generator.chance(12) { self.generator.below(8) } else { usize::MAX };
-        let name = *self.generator.pick(&CENTRES[..self.centres]);
+        let name = *self.generator.pick(&self.names[..self.centres]);
         let fingerprint = *self.generator.pick(&FINGERPRINTS);
         let kmc = match forged {
             0 => requests::identity(b"KMCID.1", b"Soft ware", name, b"20130301T173830Z", fingerprint),
@@ -281,10 +293,10 @@ impl World {
             b"KM",
             b"KMC1 ",
             b"k-234567890_234567890.234567890,234567890",
-            b"k-234567890_234567890.234567890,2345678",
+            b"k-234567890_234567890.234567890,234567",
         ];
         if self.generator.chance(80) {
-            self.generator.pick(&CENTRES[..self.centres]).to_vec()
+            self.generator.pick(&self.names[..self.centres]).to_vec()
         } else {
             self.generator.pick(&strangers).to_vec()
         }
