@@ -1,7 +1,8 @@
 -- The order of byte strings, and lists in the order of a test (document 02, N1).
 use Prim.Native.Nat.{ℕ}
 use mathlib.Core.Bool.{Bool, true, false, cond, _&&_, _||_}
-use mathlib.Core.List.{List, [], _∷_}
+use mathlib.Core.Path.{_≡_}
+use mathlib.Core.List.{List, [], _∷_, Pairwise}
 use lib.Dec.{eqb, ltb}
 
 -- ascending byte sequence: the first byte that differs decides, and a string stands before its extensions
@@ -21,12 +22,6 @@ abbrev pub sortedBy : {A : Type 0} → (A → A → Bool) → List A → List A
 sortedBy before [] = []
 sortedBy before (x ∷ xs) = insertedBy before x (sortedBy before xs)
 
--- an element is before every one of a list
-abbrev pub isBeforeEach : {A : Type 0} → (A → A → Bool) → A → List A → Bool
-isBeforeEach before x [] = true
-isBeforeEach before x (y ∷ ys) = before x y && isBeforeEach before x ys
-
 -- each element is before all that follow it
-abbrev pub isAscending : {A : Type 0} → (A → A → Bool) → List A → Bool
-isAscending before [] = true
-isAscending before (x ∷ xs) = isBeforeEach before x xs && isAscending before xs
+abbrev pub Ascends : {A : Type 0} → (A → A → Bool) → List A → Type 0
+Ascends before l = Pairwise (λ x y. before x y ≡ true) l

@@ -25,12 +25,22 @@ use Rattle.row_types.specs.Sound.{isOwned, areSound}
 use Rattle.row_types.specs.Supplements.{isIdentityRight, isLoadRequestRight, isWellFormed}
 use Rattle.row_types.specs.declared.SlotRow.{SlotRow}
 use Rattle.row_types.specs.declared.SlotState.the-variants.{Pending, Loading, Idle}
+use Rattle.row_types.specs.declared.Supplement.{Supplement}
 use Rattle.engine.specs.Requests.{areFieldsOf, recordIn, slotIn}
-use Rattle.engine.specs.Questions.{areCounts, questions}
+use Rattle.engine.specs.Questions.{Call, areCounts, tableQuestions, questions, firstNo}
 use Rattle.engine.specs.Answers.{response, answerOf}
 use Rattle.engine.specs.Answers as answers
-use Rattle.engine.specs.Words.{callOf}
+use Rattle.engine.specs.Words.{Lent, callOf}
 use Rattle.case_run.specs.Run.{clock, hand, printA, printB}
+
+-- the request, over any rows, with any supplement and any buffer: what refuses it is a question that every request is asked, 1 to 4. So it is accepted, and lists, wherever these are yeses
+abbrev listing : Lent → Supplement → List ℕ → Call
+listing rows supplement buffer = callOf rows (record { request = text "SM?GL6991\r"; supplement = supplement; buffer = buffer })
+
+pub list-asked : (rows : Lent) (supplement : Supplement) (buffer : List ℕ)
+    → firstNo (questions (listing rows supplement buffer)) ≡ firstNo (tableQuestions (listing rows supplement buffer))
+unfolding crcBit crcEight crcByte hexDigit sumDigits endsInSum typed valuesOf endsInReturn isWhole isChecked textOf headerOf payloadOf headers commandOf areFieldsOf recordIn slotIn questions
+list-asked rows supplement buffer = refl
 
 -- slots in the three states, by their names
 abbrev pending : String → SlotRow

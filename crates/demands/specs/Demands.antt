@@ -1,5 +1,5 @@
 -- THE THREE DEMANDS, over what a caller of `diminurel_handle` sees. What the function promises of a call, with the rows
--- before it and after it, is `Handles` (diminurel/specs/Handles.antt).
+-- before it and after it, is `Handles` (entry_contracts/specs/Handles.antt).
 use Prim.Native.Nat.{ℕ, _≤_}
 use mathlib.Core.Path.{_≡_}
 use mathlib.Core.Logic.{_↔_, _≢_}

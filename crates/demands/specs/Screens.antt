@@ -5,7 +5,7 @@ use mathlib.Core.Path.{_≡_}
 use mathlib.Core.Logic.{_↔_}
 use mathlib.Core.Bool.{true}
 use mathlib.Core.List.{List, List·Mem, List·Nodup}
-use Rattle.byte_orders.specs.Orders.{isBefore, isAscending}
+use Rattle.byte_orders.specs.Orders.{isBefore, Ascends}
 use Rattle.message_commands.specs.declared.Command.the-variants.{GL}
 use Rattle.message_replies.specs.Responses.{fieldsOf}
 use Rattle.row_types.specs.Lists.{someRow}
@@ -25,7 +25,7 @@ ListsSlots run = (commandIn (run .request) ≡ GL) × (run .outcome ≡ 0)
 pub record Listing (rows : Lent) (run : Run) : Type 0 where
   pub names : List (List ℕ)
   pub told : fieldsOf (responseIn run) ≡ nameFields names
-  pub ascends : isAscending isBefore names ≡ true
+  pub ascends : Ascends isBefore names
   pub exactly : (s : List ℕ) → List·Mem s names ↔ (someRow (isNamed s) (rows .slots) ≡ true)
   pub once : List·Nodup names
 

@@ -7,7 +7,7 @@ use Prim.Native.Nat.{ℕ}
 use Rattle.byte_strings.specs.Strings.{sameBytes}
 use Rattle.byte_strings.proofs.Flags.{nope, and-first, and-second, or-cases, or-second, both-ways}
 use Rattle.byte_strings.proofs.StringLaws.{same-self, same-equal}
-use Rattle.byte_orders.specs.Orders.{isBefore, isAscending}
+use Rattle.byte_orders.specs.Orders.{isBefore, Ascends}
 use Rattle.byte_orders.proofs.OrderLaws.{sort-perm, sort-ascends, ascending-once, one-ascending}
 use Rattle.byte_orders.proofs.ByteOrder.{bytes-ordered}
 use Rattle.row_types.specs.Lists.{everyRow, someRow, distinctRows}
@@ -72,14 +72,14 @@ module _ (slots : List SlotRow) where
   listed-exactly s = (λ m. listed-named s slots (Perm·mem-iff turned .0 m), λ e. Perm·mem-iff turned .1 (named-listed s slots e))
 
   -- and of sound rows it ascends,
-  pub listed-ascends : (registers : List RegisterRow) → areSound slots registers ≡ true → isAscending isBefore (slotNames slots) ≡ true
+  pub listed-ascends : (registers : List RegisterRow) → areSound slots registers ≡ true → Ascends isBefore (slotNames slots)
   unfolding areSound slotNames
   listed-ascends registers e =
       sort-ascends isBefore bytes-ordered (namesIn slots) (names-once slots (and-first (distinctRows isSameSlot slots) _ (and-second (everyRow isSlotSound slots) _ e)))
 
   -- so that no name stands in it twice
   pub listed-once : (registers : List RegisterRow) → areSound slots registers ≡ true → List·Nodup (slotNames slots)
-  listed-once registers e = ascending-once isBefore bytes-ordered (slotNames slots) (listed-ascends registers e)
+  listed-once registers e = ascending-once isBefore bytes-ordered (listed-ascends registers e)
 
 -- two lists of sound rows are one exactly where the slots have the same names, in whatever rows
 module _ (S T : List SlotRow) (Q R : List RegisterRow) (h : areSound S Q ≡ true) (k : areSound T R ≡ true) where

@@ -27,7 +27,8 @@ fn is_name_before(names: &[[u8; 40]], place: usize, name: &[u8]) -> bool
 fn insert(names: &[[u8; 40]], places: [usize; 8], first: usize, place: usize) -> [usize; 8]
     requires { ⌜ (first < 8) × (place < length (now names))
         × (areBelow (length (now names)) (drop (first + 1) places) ≡ true) ⌝ }
-    ensures { λ r. ⌜ drop first r ≡ insertedBy (isBeforeAt (now (names .entry))) place (drop (first + 1) places) ⌝ }
+    ensures { λ r. ⌜ drop first r
+        ≡ insertedBy (isBeforeAt (now (names .entry))) place (drop (first + 1) places) ⌝ }
 {
     let mut after = places;
     let name = slot_tests::trimmed(&names[place]);
