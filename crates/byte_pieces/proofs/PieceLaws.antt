@@ -1,6 +1,6 @@
 -- A byte string cut at a delimiter, piece by piece: the first one, and what follows it.
 use mathlib.Core.Path.{_≡_, refl, sym, ap, _∙_}
-use mathlib.Core.Bool.{Bool, true, false, not}
+use mathlib.Core.Bool.{Bool, true, false, cond, not}
 use mathlib.Core.List.{List, [], _∷_, _++_}
 use Prim.Native.Nat.{ℕ, _+_, _-_, _≤_, _<_}
 use native.Mathlib.Numerals.{add-one}
@@ -10,7 +10,7 @@ use lib.ListN.{length, take, drop, length-drop}
 use lib.Seq.{drop-drop}
 use borrow.Author.Tests.{eq-eqb}
 use Rattle.byte_strings.specs.Strings.{isNot, run, allOf}
-use Rattle.byte_pieces.specs.Pieces.{pieces, isEnded}
+use Rattle.byte_pieces.specs.Pieces.{onto, pieces, isEnded}
 use Rattle.byte_strings.proofs.Flags.{and-first, and-second}
 use Rattle.byte_strings.proofs.StringLaws.{rest, run-le}
 
@@ -118,3 +118,8 @@ ended-skip d b c (x ∷ xs) u = refl
 pub ended-cons : (d : ℕ) (p u : List ℕ) → isEnded d (p ++ (d ∷ u)) ≡ isEnded d u
 ended-cons d [] u = ended-after d d u (eq-eqb d d refl)
 ended-cons d (b ∷ bs) u = ended-skip d b d bs u ∙ ended-cons d bs u
+
+-- what holds no delimiter is no piece, wherever it follows
+pub pieces-open : (d : ℕ) (p u : List ℕ) → pieces d u ≡ [] → pieces d (p ++ u) ≡ pieces d p
+pieces-open d [] u e = e
+pieces-open d (b ∷ p) u e = ap (λ (ps : List (List ℕ)). cond (eqb b d) ([] ∷ ps) (onto b ps)) (pieces-open d p u e)

@@ -1,3 +1,4 @@
 pub mod Wrote
 pub mod Strings
 pub mod Texts
+pub mod Lists

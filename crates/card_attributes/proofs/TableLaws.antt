@@ -1,13 +1,13 @@
 -- A rule of every attribute of the table, proved by one test that antt computes; and the table's end.
 use mathlib.Core.Path.{_≡_, refl, ap, subst}
 use mathlib.Core.Bool.{Bool, true, false, _&&_}
-use mathlib.Core.List.{List, [], _∷_}
+use mathlib.Core.List.{List, [], _∷_, _++_, map}
 use Prim.Native.Nat.{ℕ, zero, suc, _+_, _≤_, _<_}
 use native.Mathlib.Omega.{arith}
 use lib.Dec.{T, ltb, ltb→lt}
-use lib.ListN.{length, drop, length-drop, drop-of-length-le}
+use lib.ListN.{length, take, drop, length-drop, drop-of-length-le}
 use Rattle.byte_strings.proofs.Flags.{and-left, and-right}
-use Rattle.card_attributes.specs.Table.{table, rows, name}
+use Rattle.card_attributes.specs.Table.{SGN, table, rows, always, name}
 use Rattle.card_attributes.specs.declared.Attribute.{Attribute}
 
 -- the test passes at each attribute
@@ -23,7 +23,7 @@ at-row f [] t k a r e = absurd (omega (arith, ap length e, length-drop k (as-row
 at-row f (x ∷ rs) t zero a r e = let h : x ≡ a = cc in subst (λ (y : Attribute). T (f y)) h (and-left (f x) (allRows f rs) t)
 at-row f (x ∷ rs) t (suc k) a r e = at-row f rs (and-right (f x) (allRows f rs) t) k a r e
 
-both : (a b : Bool) → T a → T b → T (a && b)
+pub both : (a b : Bool) → T a → T b → T (a && b)
 both true b p q = q
 both false b p q = p
 
@@ -40,6 +40,11 @@ module _ (k : ℕ) (a : Attribute) (r : List Attribute) (e : drop k table ≡ a 
   pub name-three : name a < 16777216
   unfolding table
   name-three = ltb→lt (name a) 16777216 (at-row (λ (x : Attribute). ltb (name x) 16777216) table tt k a r e)
+
+-- every stored card has all but the fourteenth, SGN
+pub all-but-sgn : (always ≡ take 13 table ++ drop 14 table) × (map name (take 1 (drop 13 table)) ≡ SGN ∷ [])
+unfolding table always
+all-but-sgn = (refl, refl)
 
 -- an arm of the match on a row's number
 pub row-arm : (k n : ℕ) → k ≡ n → (a : Attribute) → drop n table ≡ a ∷ drop (n + 1) table → drop k table ≡ a ∷ drop (k + 1) table

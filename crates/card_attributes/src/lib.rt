@@ -33,21 +33,25 @@ pub const SBM: u32 = 0x53424D;
 
 pub const SGC: u32 = 0x534743;
 
+pub const SGN: u32 = 0x53474E;
+
 pub const ULM: u32 = 0x554C4D;
 
 pub const VND: u32 = 0x564E44;
 
-// Whether an incoming card must have the attribute, may have it, or the attribute belongs to the engine.
+// Whether an incoming card must have the attribute, may have it with a default where it has not, the attribute belongs
+// to the engine, or it is kept just where the incoming card has it.
 pub enum Presence {
     Required,
     Optional,
     Engine,
+    Kept,
 }
 
 // Name, presence, and form of the value.
 pub struct Attribute(pub u32, pub Presence, pub Form);
 
-pub const ROWS: usize = 15;
+pub const ROWS: usize = 16;
 
 // An attribute by its index. A match, since a table that is indexed would be laid out anew at each call.
 pub fn row(index: usize) -> Attribute
@@ -68,7 +72,8 @@ pub fn row(index: usize) -> Attribute
         10 => Attribute(KTC, Presence::Required, Form::Number(1, 0, 3)),
         11 => Attribute(SBM, Presence::Optional, Form::Hex(4)),
         12 => Attribute(SGC, Presence::Required, Form::Digits(10)),
-        13 => Attribute(ULM, Presence::Optional, Form::Number(9, 0, 999999999)),
+        13 => Attribute(SGN, Presence::Kept, Form::Label(24)),
+        14 => Attribute(ULM, Presence::Optional, Form::Number(9, 0, 999999999)),
         _ => Attribute(VND, Presence::Engine, Form::Number(9, 0, 999999999)),
     }
 }

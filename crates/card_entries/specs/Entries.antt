@@ -1,7 +1,7 @@
 -- A card, a term of document 01 (Cards): entries, each a name of three capitals, a value and a semicolon.
 use Prim.Native.Nat.{ℕ, _+_, _-_, _/_, _%_, _≤_}
 use Prim.Native.Char.{code}
-use mathlib.Core.Bool.{Bool, cond}
+use mathlib.Core.Bool.{Bool, true, false, cond}
 use mathlib.Core.List.{List, [], _∷_, _++_}
 use mathlib.Core.Option.{Option, none, some}
 use lib.Dec.{eqb}
@@ -48,6 +48,11 @@ valueIn n (p ∷ ps) = cond (eqb (nameOf p) n) (some (drop 3 p)) (valueIn n ps)
 -- the value under a name in a card; 0 is no name
 unfoldable pub valueOf : ℕ → List ℕ → Option (List ℕ)
 valueOf n card = cond (eqb n 0) none (valueIn n (entries card))
+
+-- whether there is a value
+abbrev pub isSome : Option (List ℕ) → Bool
+isSome none = false
+isSome (some v) = true
 
 -- what stands between the bounds that a search found
 abbrev pub between : List ℕ → Found → Option (List ℕ)

@@ -13,10 +13,10 @@ use Rattle.text_classes.specs.Classes.{areAll}
 use Rattle.text_classes.specs.declared.Class.the-variants.{Value}
 use Rattle.text_forms.specs.Forms.{inForm}
 use Rattle.card_entries.specs.Entries.{nameOf}
-use Rattle.card_attributes.specs.Table.{ACT, BDT, CLM, CLU, DKG, IUT, KCV, KEN, KRN, KSL, KTC, SBM, SGC, ULM, VND}
+use Rattle.card_attributes.specs.Table.{ACT, BDT, CLM, CLU, DKG, IUT, KCV, KEN, KRN, KSL, KTC, SBM, SGC, SGN, ULM, VND}
 use Rattle.card_attributes.specs.Table.{table, rows, name, presence, form}
 use Rattle.card_incoming.specs.Incoming.{fits, fitsName, fitsFirst, indexOf}
-use Rattle.card_attributes.specs.declared.Presence.the-variants.{Required, Optional, Engine}
+use Rattle.card_attributes.specs.declared.Presence.the-variants.{Required, Optional, Engine, Kept}
 use Rattle.card_attributes.specs.declared.Attribute.{Attribute}
 use Rattle.card_entries.proofs.EntryLaws.{value-here, name-room}
 use Rattle.card_attributes.proofs.TableLaws.{table-end}
@@ -31,6 +31,10 @@ module _ (a : Attribute) (v : List ℕ) where
   pub fits-optional : presence a ≡ Optional → (r : Bool) → r ≡ inForm (form a) v → r ≡ fits a v
   unfolding fits
   fits-optional e r p = rw (e, p)
+
+  pub fits-kept : presence a ≡ Kept → (r : Bool) → r ≡ inForm (form a) v → r ≡ fits a v
+  unfolding fits
+  fits-kept e r p = rw (e, p)
 
   pub fits-empty : presence a ≡ Engine → length v < 1 → false ≡ fits a v
   unfolding fits
@@ -55,10 +59,10 @@ module _ (n : ℕ) where
 
   module _ (act : n ≡ ACT → ⊥) (bdt : n ≡ BDT → ⊥) (clm : n ≡ CLM → ⊥) (clu : n ≡ CLU → ⊥) (dkg : n ≡ DKG → ⊥) where
     module _ (iut : n ≡ IUT → ⊥) (kcv : n ≡ KCV → ⊥) (ken : n ≡ KEN → ⊥) (krn : n ≡ KRN → ⊥) (ksl : n ≡ KSL → ⊥) where
-      module _ (ktc : n ≡ KTC → ⊥) (sbm : n ≡ SBM → ⊥) (sgc : n ≡ SGC → ⊥) (ulm : n ≡ ULM → ⊥) (vnd : n ≡ VND → ⊥) where
+      module _ (ktc : n ≡ KTC → ⊥) (sbm : n ≡ SBM → ⊥) (sgc : n ≡ SGC → ⊥) (sgn : n ≡ SGN → ⊥) (ulm : n ≡ ULM → ⊥) (vnd : n ≡ VND → ⊥) where
         pub index-none : rows ≡ indexOf table n
         unfolding table
-        index-none = rw (not-it ACT act, not-it BDT bdt, not-it CLM clm, not-it CLU clu, not-it DKG dkg, not-it IUT iut, not-it KCV kcv, not-it KEN ken, not-it KRN krn, not-it KSL ksl, not-it KTC ktc, not-it SBM sbm, not-it SGC sgc, not-it ULM ulm, not-it VND vnd)
+        index-none = rw (not-it ACT act, not-it BDT bdt, not-it CLM clm, not-it CLU clu, not-it DKG dkg, not-it IUT iut, not-it KCV kcv, not-it KEN ken, not-it KRN krn, not-it KSL ksl, not-it KTC ktc, not-it SBM sbm, not-it SGC sgc, not-it SGN sgn, not-it ULM ulm, not-it VND vnd)
           where
             not-it : (m : ℕ) → (n ≡ m → ⊥) → eqb m n ≡ false
             not-it m o = ne-eqb m n (λ e. o (sym e))

@@ -14,13 +14,13 @@ use Rattle.byte_strings.proofs.Below.{at-below}
 use Rattle.byte_strings.proofs.Flags.{nope, and-left, and-right, yes, holds}
 use Rattle.byte_bounds.specs.Bounds.{bytesIn, FitIn, nowhere}
 use Rattle.byte_bounds.specs.declared.Bounds.{Bounds}
-use Rattle.card_entries.specs.Entries.{entries, nameOf, valueIn, valueOf, orElse}
+use Rattle.card_entries.specs.Entries.{entries, nameOf, valueIn, valueOf, isSome, orElse}
 use Rattle.card_entries.proofs.EntryLaws.{a-name, found-here, found-later, name-room}
 use Rattle.card_attributes.specs.Table.{KRN, SGC, table, rows, name, presence}
 use Rattle.card_attributes.specs.declared.Presence.the-variants.{Required}
 use Rattle.card_attributes.proofs.TableLaws.{at-row}
 use Rattle.card_attributes.specs.declared.Attribute.{Attribute}
-use Rattle.card_incoming.specs.Incoming.{nameAt, AreValues, indexOf, isSome, isMet, hasNoted, hasRequired, isCard, isIncoming}
+use Rattle.card_incoming.specs.Incoming.{nameAt, AreValues, indexOf, isMet, hasNoted, hasRequired, isCard, isIncoming}
 use Rattle.card_incoming.specs.declared.Incoming.{Incoming}
 
 -- an attribute's name is none of 0, and its index is the attribute's

@@ -14,10 +14,10 @@ use Rattle.text_classes.specs.Classes.{areAll}
 use Rattle.text_classes.specs.declared.Class.the-variants.{Value}
 use Rattle.text_forms.specs.Forms.{inForm}
 use Rattle.text_forms.specs.declared.Form.{Form}
-use Rattle.card_entries.specs.Entries.{semicolon, entries, isNamed, nameOf, valueOf}
+use Rattle.card_entries.specs.Entries.{semicolon, entries, isNamed, nameOf, valueOf, isSome}
 use Rattle.card_attributes.specs.Table.{table, rows, name, presence, form}
 use Rattle.card_attributes.specs.declared.Presence.{Presence}
-use Rattle.card_attributes.specs.declared.Presence.the-variants.{Required, Optional, Engine}
+use Rattle.card_attributes.specs.declared.Presence.the-variants.{Required, Optional, Engine, Kept}
 use Rattle.card_attributes.specs.declared.Attribute.{Attribute}
 
 -- v under a known name: in form, so its bytes are 20 to 7D but ; and | (forms, in-form-value); the engine's own are not
@@ -26,6 +26,7 @@ abbrev pub fitsAs : Presence → Form → List ℕ → Bool
 fitsAs Required f v = inForm f v
 fitsAs Optional f v = inForm f v
 fitsAs Engine f v = leb 1 (length v) && areAll Value v
+fitsAs Kept f v = inForm f v
 
 unfoldable pub fits : Attribute → List ℕ → Bool
 fits a v = fitsAs (presence a) (form a) v
@@ -60,14 +61,11 @@ isCard card =
     ∷ every isFitting (entries card)  -- each value has its name's form
     ∷ [])
 
-abbrev pub isSome : Option (List ℕ) → Bool
-isSome none = false
-isSome (some v) = true
-
 abbrev pub isRequired : Presence → Bool
 isRequired Required = true
 isRequired Optional = false
 isRequired Engine = false
+isRequired Kept = false
 
 -- the attribute is there, if it is required
 unfoldable pub isMet : Attribute → List ℕ → Bool

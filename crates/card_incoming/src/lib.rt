@@ -16,6 +16,7 @@ use card_attributes::Presence;
 use card_attributes::ROWS;
 use card_attributes::SBM;
 use card_attributes::SGC;
+use card_attributes::SGN;
 use card_attributes::ULM;
 use card_attributes::VND;
 use text_classes::Class;
@@ -40,6 +41,7 @@ fn fits(a: Attribute, v: &[u8]) -> bool
             }
             text_classes::are_all(Class::Value, v)
         }
+        Presence::Kept => text_forms::in_form(form, v),
     }
 }
 
@@ -72,14 +74,15 @@ fn index_of(name: u32) -> usize
         KTC => 10,
         SBM => 11,
         SGC => 12,
-        ULM => 13,
-        VND => 14,
-        _ => 15,
+        SGN => 13,
+        ULM => 14,
+        VND => 15,
+        _ => ROWS,
     }
 }
 
 // Whether the value of every required attribute was noted.
-fn has_required(values: [Bounds; 15]) -> bool
+fn has_required(values: [Bounds; ROWS]) -> bool
     ensures { λ r. ⌜ r ≡ hasNoted table 0 values ⌝ }
 {
     let act = values[0].start != 0;
@@ -96,7 +99,7 @@ fn has_required(values: [Bounds; 15]) -> bool
 // attribute's index, 0 and 0 where the card has none.
 pub struct Incoming {
     pub in_form: bool,
-    pub values: [Bounds; 15],
+    pub values: [Bounds; ROWS],
 }
 
 // Reads an incoming card in one pass.
@@ -106,7 +109,7 @@ pub fn read_card(card: &[u8]) -> Incoming
 {
     let mut read = Incoming {
         in_form: false,
-        values: [Bounds { start: 0, end: 0 }; 15],
+        values: [Bounds { start: 0, end: 0 }; ROWS],
     };
     let mut at = 0;
     let mut last = 0;

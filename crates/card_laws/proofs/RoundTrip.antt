@@ -1,31 +1,77 @@
 -- A card that is written with values in form is a card as stored, is text, and each name reads back its value.
-use mathlib.Core.Path.{_≡_, refl, sym, _∙_}
-use mathlib.Core.Bool.{Bool, true, false, not, _&&_}
+use mathlib.Core.Path.{_≡_, refl, sym, ap, _∙_}
+use mathlib.Core.Bool.{Bool, true, false, cond, not, _&&_, _||_, or-true}
 use mathlib.Core.List.{List, [], _∷_, _++_, append-assoc, append-nil}
-use mathlib.Core.Option.{some}
-use Prim.Native.Nat.{ℕ, zero, suc, _+_, _-_, _≤_}
+use mathlib.Core.Option.{none, some}
+use Prim.Native.Nat.{ℕ, zero, suc, _+_, _-_, _≤_, _<_}
 use native.Mathlib.Omega.{arith}
-use lib.Dec.{T, eqb, ltb, leb, le→leb, leb→le}
+use lib.Dec.{T, eqb, ltb, leb, le→leb, leb→le, ltb→lt}
 use lib.ListN.{length, take, drop, replicate, length-append, length-replicate}
-use lib.Seq.{take-at, drop-append-add}
-use borrow.Author.Tests.{eq-eqb, lt-ltb, eqb-true}
+use lib.Seq.{take-at}
+use borrow.Author.Tests.{eq-eqb, eqb-true}
 use Rattle.byte_strings.specs.Strings.{run, isNot, allOf}
+use Rattle.byte_strings.specs.Lists.{rowsThat}
 use Rattle.byte_pieces.specs.Pieces.{pieces}
-use Rattle.byte_strings.proofs.Flags.{and-left, and-right, yes, no}
+use Rattle.byte_strings.proofs.Flags.{and-first, and-second, and-left, and-right, yes, no}
 use Rattle.byte_strings.proofs.StringLaws.{all-run, all-append}
-use Rattle.byte_pieces.proofs.PieceLaws.{pieces-cons}
+use Rattle.byte_pieces.proofs.PieceLaws.{pieces-cons, pieces-open}
 use Rattle.text_classes.specs.Classes.{isOf, areAll}
 use Rattle.text_classes.specs.declared.Class.the-variants.{Text, Zero}
 use Rattle.text_classes.proofs.ClassLaws.{class-plain}
 use Rattle.text_forms.specs.Forms.{inForm}
 use Rattle.text_forms.proofs.FormBounds.{in-form-plain, semicolon, in-form-text, isBounded, most, in-form-short}
 use Rattle.card_entries.specs.Entries.{nameOf, valueIn, valueOf, nameBytes, entryBytes}
-use Rattle.card_attributes.specs.Table.{table, name, form}
+use Rattle.card_attributes.specs.Table.{table, isAlways, always, name, presence, form}
 use Rattle.card_stored.specs.Stored.{cardBytes, inRow, isEntryOf, isStored}
 use Rattle.card_stored.proofs.Sequence.{isStoredFrom, first-cut, stored-by-entries}
 use Rattle.card_attributes.specs.declared.Attribute.{Attribute}
 use Rattle.card_entries.proofs.EntryLaws.{a-name, entry-length}
-use Rattle.card_attributes.proofs.TableLaws.{allRows, at-row, all-rows, name-some}
+use Rattle.card_attributes.proofs.TableLaws.{allRows, both, at-row, all-rows}
+
+-- the attributes of a stored card, with SGN or without it
+abbrev pub rowsOf : Bool → List Attribute
+rowsOf true = table
+rowsOf false = always
+
+-- what holds of each attribute holds of those that pass a test
+all-that : (f p : Attribute → Bool) (rs : List Attribute) → T (allRows f rs) → T (allRows f (rowsThat p rs))
+all-that f p [] t = tt
+all-that f p (a ∷ rs) t = go (p a) (all-that f p rs (and-right (f a) (allRows f rs) t))
+  where
+    go : (q : Bool) → T (allRows f (rowsThat p rs)) → T (allRows f (cond q (a ∷ rowsThat p rs) (rowsThat p rs)))
+    go true i = both (f a) (allRows f (rowsThat p rs)) (and-left (f a) (allRows f rs) t) i
+    go false i = i
+
+-- so what holds of each of the table holds of those of both
+all-of : (f : Attribute → Bool) (t : Bool) → T (allRows f table) → T (allRows f (rowsOf t))
+unfolding always
+all-of f true i = i
+all-of f false i = all-that f (λ (a : Attribute). isAlways (presence a)) table i
+
+-- an attribute stands among others
+pub record Among (a : Attribute) (rs : List Attribute) : Type 0 where
+  pub place : ℕ
+  pub rest : List Attribute
+  pub is : drop place rs ≡ a ∷ rest
+
+-- one of those that pass a test stands among all of them
+that-among : (p : Attribute → Bool) (rs : List Attribute) (k : ℕ) (a : Attribute) (r : List Attribute) → drop k (rowsThat p rs) ≡ a ∷ r → Among a rs
+that-among p [] k a r e = absurd (at-row (λ (x : Attribute). false) [] tt k a r e)
+that-among p (x ∷ rs) k a r e = go (p x) k e (λ j. that-among p rs j a r)
+  where
+    later : Among a rs → Among a (x ∷ rs)
+    later m = record { place = suc (m .place); rest = m .rest; is = m .is }
+
+    go : (t : Bool) (j : ℕ) → drop j (cond t (x ∷ rowsThat p rs) (rowsThat p rs)) ≡ a ∷ r → ((i : ℕ) → drop i (rowsThat p rs) ≡ a ∷ r → Among a rs) → Among a (x ∷ rs)
+    go true zero q more = record { place = 0; rest = rs; is = let h : x ≡ a = cc in ap (λ (y : Attribute). y ∷ rs) h }
+    go true (suc j) q more = later (more j q)
+    go false j q more = later (more j q)
+
+-- so one that every stored card has stands among those of both
+pub among-both : (t : Bool) (k : ℕ) (a : Attribute) (r : List Attribute) → drop k always ≡ a ∷ r → Among a (rowsOf t)
+unfolding always
+among-both true k a r e = that-among (λ (x : Attribute). isAlways (presence x)) table k a r e
+among-both false k a r e = record { place = k; rest = r; is = e }
 
 -- a name that is written is read, holds no semicolon and is text; computed for the table
 abbrev isRead : Attribute → Bool
@@ -44,7 +90,7 @@ all-written : T (allRows isWritten table)
 unfolding table nameOf
 all-written = tt
 
--- no name twice; computed for the table
+-- no name twice; computed for both
 abbrev pub isOther : Attribute → Attribute → Bool
 isOther a b = not (eqb (name a) (name b))
 
@@ -52,9 +98,10 @@ abbrev pub isDistinct : List Attribute → Bool
 isDistinct [] = true
 isDistinct (a ∷ rs) = allRows (isOther a) rs && isDistinct rs
 
-pub all-distinct : T (isDistinct table)
-unfolding table
-all-distinct = tt
+pub all-distinct : (t : Bool) → T (isDistinct (rowsOf t))
+unfolding table always
+all-distinct true = tt
+all-distinct false = tt
 
 -- every form of the table has a longest value; computed for the table
 all-bounded : T (allRows (λ (a : Attribute). isBounded (form a)) table)
@@ -70,6 +117,18 @@ zeros : (m : ℕ) → areAll Zero (replicate m 0) ≡ true
 unfolding areAll
 zeros zero = refl
 zeros (suc m) = zeros m
+
+-- zeros after a card change no value in it
+pub zero-pieces : (z : List ℕ) → areAll Zero z ≡ true → pieces 59 z ≡ []
+unfolding areAll
+zero-pieces [] e = refl
+zero-pieces (b ∷ z) e = rw (eqb-true b 0 (and-first (eqb b 0) (allOf (isOf Zero) z) e), zero-pieces z (and-second (eqb b 0) (allOf (isOf Zero) z) e))
+
+pub row-value : (n : ℕ) (card : List ℕ) → valueOf n (inRow card) ≡ valueOf n card
+unfolding inRow valueOf
+row-value n card =
+    let z = replicate {A = ℕ} (256 - length card) 0 in
+    ap (λ (ps : List (List ℕ)). cond (eqb n 0) none (valueIn n ps)) (pieces-open 59 card z (zero-pieces z (zeros (256 - length card))))
 
 no-run : (m : ℕ) → run (isNot 0) (replicate m 0) ≡ 0
 no-run zero = refl
@@ -151,53 +210,86 @@ module _ (f : ℕ → List ℕ) where
       let l = fits-room m rs (and-right (isWithin m a) (allRows (isWithin m) rs) i) in
       rw length-append (omega (arith, entry-length (name a) (f (name a))))
 
-  -- THE LAWS. Where every value is in the form that the table gives its name:
-  module _ (i : T (allRows isInForm table)) where
-    pub value-short : (k : ℕ) (a : Attribute) (r : List Attribute) → drop k table ≡ a ∷ r → length (f (name a)) ≤ most (form a)
+  -- a name that none of the attributes has is not found in the card
+  absent : (n : ℕ) (rs : List Attribute) → T (allRows isWritten rs) → T (allRows isInForm rs) → T (allRows (λ (a : Attribute). not (eqb (name a) n)) rs) → valueIn n (pieces 59 (cardBytes rs f)) ≡ none
+  absent n [] w i o = refl
+  absent n (a ∷ rs) w i o =
+      let w1 = and-left (isWritten a) (allRows isWritten rs) w in
+      let p = entry-plain a w1 (and-left (isInForm a) (allRows isInForm rs) i) in
+      let c : pieces 59 (cardBytes (a ∷ rs) f) ≡ entry a ∷ pieces 59 (cardBytes rs f) =
+      ap (pieces 59) (sym (append-nil (cardBytes (a ∷ rs) f)) ∙ card-cons a rs []) ∙ pieces-cons 59 (entry a) (cardBytes rs f ++ []) p ∙ ap (λ (l : List ℕ). entry a ∷ pieces 59 l) (append-nil (cardBytes rs f)) in
+      let others : Attribute → Bool = λ x. not (eqb (name x) n) in
+      rw (c, entry-name a w1, no (eqb (name a) n) (and-left (others a) (allRows others rs) o))
+      (absent n rs (and-right (isWritten a) (allRows isWritten rs) w) (and-right (isInForm a) (allRows isInForm rs) i) (and-right (others a) (allRows others rs) o))
+
+  -- THE LAWS. Where every value is in the form that the table gives its name, with SGN or without it:
+  module _ (i : T (allRows isInForm table)) (t : Bool) where
+    abbrev card : List ℕ
+    card = cardBytes (rowsOf t) f
+
+    written : T (allRows isWritten (rowsOf t))
+    written = all-of isWritten t all-written
+
+    in-form : T (allRows isInForm (rowsOf t))
+    in-form = all-of isInForm t i
+
+    pub value-short : (k : ℕ) (a : Attribute) (r : List Attribute) → drop k (rowsOf t) ≡ a ∷ r → length (f (name a)) ≤ most (form a)
     value-short k a r e =
         in-form-short (form a) (f (name a))
-        (yes (isBounded (form a)) (at-row (λ (x : Attribute). isBounded (form x)) table all-bounded k a r e))
-        (yes (isInForm a) (at-row isInForm table i k a r e))
+        (yes (isBounded (form a)) (at-row (λ (x : Attribute). isBounded (form x)) (rowsOf t) (all-of (λ (x : Attribute). isBounded (form x)) t all-bounded) k a r e))
+        (yes (isInForm a) (at-row isInForm (rowsOf t) in-form k a r e))
 
-    -- the card is short enough,
-    pub is-short : length (cardBytes table f) ≤ 202
-    unfolding table
-    is-short =
-        let m : Attribute → ℕ = λ a. most (form a) in
-        let w : T (allRows (isWithin m) table) = all-rows (isWithin m) table (λ k a r e. le→leb (length (f (name a))) (most (form a)) (value-short k a r e)) in
-        let h : length (cardBytes table f) ≤ room m table = fits-room m table w in
-        omega arith
+    -- the card has room for its longest values,
+    pub has-room : (m : Attribute → ℕ) → ((k : ℕ) (a : Attribute) (r : List Attribute) → drop k (rowsOf t) ≡ a ∷ r → length (f (name a)) ≤ m a) → length card ≤ room m (rowsOf t)
+    has-room m h = fits-room m (rowsOf t) (all-rows (isWithin m) (rowsOf t) (λ k a r e. le→leb (length (f (name a))) (m a) (h k a r e)))
+
+    pub is-short : length card ≤ 230
+    unfolding table always
+    is-short = within t (has-room (λ (a : Attribute). most (form a)) value-short)
+      where
+        within : (b : Bool) → length card ≤ room (λ (a : Attribute). most (form a)) (rowsOf b) → length card ≤ 230
+        within true h = omega arith
+        within false h = omega arith
 
     -- passes the test of a card as stored,
-    pub is-stored : isStored (inRow (cardBytes table f)) ≡ true
+    pub is-stored : isStored (inRow card) ≡ true
     unfolding inRow
     is-stored =
-        let n : length (cardBytes table f ++ replicate (256 - length (cardBytes table f)) 0) ≡ 256 = length-append (cardBytes table f) (replicate (256 - length (cardBytes table f)) 0) ∙ rw length-replicate (omega (arith, is-short)) in
-        rw (stored-by-entries, n) (stores table (256 - length (cardBytes table f)) all-written i)
+        let m = 256 - length card in
+        let n : length (card ++ replicate m 0) ≡ 256 = length-append card (replicate m 0) ∙ rw length-replicate (omega (arith, is-short)) in
+        rw (stored-by-entries, n) (either t (stores (rowsOf t) m written in-form))
+      where
+        either : (b : Bool) → isStoredFrom (rowsOf b) (card ++ replicate (256 - length card) 0) ≡ true
+            → (isStoredFrom always (card ++ replicate (256 - length card) 0) || isStoredFrom table (card ++ replicate (256 - length card) 0)) ≡ true
+        either true e = rw e (or-true (isStoredFrom always (card ++ replicate (256 - length card) 0)))
+        either false e = rw e
 
     -- is text,
-    pub is-text : areAll Text (cardBytes table f) ≡ true
+    pub is-text : areAll Text card ≡ true
     unfolding areAll
-    is-text = rw append-nil at (texts table [] all-written i refl)
+    is-text = rw append-nil at (texts (rowsOf t) [] written in-form refl)
 
     -- stands in its row up to the first zero,
-    pub is-measured : take (run (isNot 0) (inRow (cardBytes table f))) (inRow (cardBytes table f)) ≡ cardBytes table f
+    pub is-measured : take (run (isNot 0) (inRow card)) (inRow card) ≡ card
     unfolding inRow
     is-measured =
-        let z = replicate {A = ℕ} (256 - length (cardBytes table f)) 0 in
-        let n : run (isNot 0) (cardBytes table f ++ z) ≡ length (cardBytes table f) = all-run (isNot 0) (cardBytes table f) z (class-plain Text 0 (cardBytes table f) refl is-text) ∙ omega (arith, no-run (256 - length (cardBytes table f))) in
-        take-at (cardBytes table f) z (run (isNot 0) (cardBytes table f ++ z)) (sym n)
+        let z = replicate {A = ℕ} (256 - length card) 0 in
+        let n : run (isNot 0) (card ++ z) ≡ length card = all-run (isNot 0) card z (class-plain Text 0 card refl is-text) ∙ omega (arith, no-run (256 - length card)) in
+        take-at card z (run (isNot 0) (card ++ z)) (sym n)
 
     -- and each name reads back its value, in the row and in the card alone
-    module _ (k : ℕ) (a : Attribute) (r : List Attribute) (e : drop k table ≡ a ∷ r) where
-      reads : (t : List ℕ) → valueOf (name a) (cardBytes table f ++ t) ≡ some (f (name a))
-      reads t =
-          sym (a-name (cardBytes table f ++ t) (name a) (λ z. omega (arith, name-some k a r e)))
-          ∙ back table t all-written all-distinct i k a r e
+    module _ (k : ℕ) (a : Attribute) (r : List Attribute) (e : drop k (rowsOf t) ≡ a ∷ r) where
+      some-name : 0 < name a
+      unfolding table
+      some-name = ltb→lt 0 (name a) (at-row (λ (x : Attribute). ltb 0 (name x)) (rowsOf t) (all-of (λ (x : Attribute). ltb 0 (name x)) t tt) k a r e)
 
-      pub reads-row : valueOf (name a) (inRow (cardBytes table f)) ≡ some (f (name a))
-      unfolding inRow
-      reads-row = reads (replicate (256 - length (cardBytes table f)) 0)
+      pub reads-card : valueOf (name a) card ≡ some (f (name a))
+      reads-card = sym (a-name card (name a) (λ z. omega (arith, some-name))) ∙ rw append-nil at (back (rowsOf t) [] written (all-distinct t) in-form k a r e)
 
-      pub reads-card : valueOf (name a) (cardBytes table f) ≡ some (f (name a))
-      reads-card = rw append-nil at (reads [])
+      pub reads-row : valueOf (name a) (inRow card) ≡ some (f (name a))
+      reads-row = row-value (name a) card ∙ reads-card
+
+    -- and one that no attribute has is not found in it
+    module _ (n : ℕ) (h : 0 < n) (o : T (allRows (λ (a : Attribute). not (eqb (name a) n)) (rowsOf t))) where
+      pub not-in-card : valueOf n card ≡ none
+      not-in-card = sym (a-name card n (λ z. omega arith)) ∙ absent n (rowsOf t) written in-form o

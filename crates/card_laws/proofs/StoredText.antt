@@ -1,23 +1,28 @@
 -- A card as stored, entry by entry: a name and a value in form. So what stands before its zeros is text.
-use mathlib.Core.Path.{_≡_, refl}
-use mathlib.Core.Bool.{Bool, true, false, cond, _&&_}
+use mathlib.Core.Path.{_≡_, refl, sym, ap, _∙_}
+use mathlib.Core.Bool.{Bool, true, false, cond, _&&_, _||_}
 use mathlib.Core.List.{List, [], _∷_, _++_}
+use mathlib.Core.Logic.{⊎-elim}
+use mathlib.Core.Option.{none}
 use Prim.Native.Nat.{ℕ, suc, _+_, _<_}
 use lib.Dec.{T, eqb, ltb, ltb→lt}
-use lib.ListN.{length, take, drop}
+use lib.ListN.{length, take, drop, take-append-drop}
 use borrow.Author.Tests.{ltb-true, eqb-true}
 use Rattle.byte_strings.specs.Strings.{run, isNot, allOf}
 use Rattle.byte_strings.proofs.Flags.{and-first, and-second, and-both, and-left, and-right}
+use Rattle.byte_pieces.specs.Pieces.{pieces, isEnded}
+use Rattle.byte_pieces.proofs.PieceLaws.{pieces-open}
 use Rattle.text_classes.specs.Classes.{isOf, areAll}
 use Rattle.text_classes.specs.declared.Class.the-variants.{Text, Zero}
 use Rattle.text_forms.specs.Forms.{inForm}
-use Rattle.card_entries.specs.Entries.{entryLength, nameOf}
-use Rattle.card_attributes.specs.Table.{table, name, form}
+use Rattle.card_entries.specs.Entries.{entryLength, nameOf, valueIn, valueOf}
+use Rattle.card_attributes.specs.Table.{table, always, name, form}
 use Rattle.card_attributes.specs.declared.Attribute.{Attribute}
 use Rattle.card_attributes.proofs.TableLaws.{allRows}
-use Rattle.card_stored.specs.Stored.{isEntryOf, isStored}
+use Rattle.card_stored.specs.Stored.{isEntryOf, areEntriesOf, isStored}
 use Rattle.card_stored.proofs.Runs.{parted}
 use Rattle.card_stored.proofs.Sequence.{isStoredFrom, entry-text, stored-walk}
+use Rattle.card_laws.proofs.RoundTrip.{zero-pieces}
 
 -- the first entry, and what follows it
 module _ (x : Attribute) (rs : List Attribute) (s : List ℕ) (e : isStoredFrom (x ∷ rs) s ≡ true) where
@@ -75,5 +80,16 @@ text-from (x ∷ rs) w s e =
     rw (parted 59 s (entry-ends x rs s e)) (upto (isOf Text) (isNot 0) p (59 ∷ behind x rs s e) t m)
 
 pub stored-text : (s : List ℕ) → isStored s ≡ true → areAll Text (take (run (isNot 0) s) s) ≡ true
-unfolding areAll table
-stored-text s e = text-from table tt s (stored-walk s e)
+unfolding areAll table always
+stored-text s e = ⊎-elim (text-from always tt s) (text-from table tt s) (stored-walk s e)
+
+-- and what stands there has the same values as the row
+pub shown-value : (n : ℕ) (s : List ℕ) → isStored s ≡ true → valueOf n (take (run (isNot 0) s) s) ≡ valueOf n s
+unfolding valueOf isStored
+shown-value n s e =
+    let m = run (isNot 0) s in
+    let es = pieces 59 (take m s) in
+    let both = areEntriesOf always es || areEntriesOf table es in
+    let z : areAll Zero (drop m s) ≡ true = and-second both (areAll Zero (drop m s)) (and-second (isEnded 59 (take m s)) (both && areAll Zero (drop m s)) (and-second (eqb (length s) 256) _ e)) in
+    let p : pieces 59 (take m s) ≡ pieces 59 s = sym (pieces-open 59 (take m s) (drop m s) (zero-pieces (drop m s) z)) ∙ ap (pieces 59) (take-append-drop m s) in
+    ap (λ (ps : List (List ℕ)). cond (eqb n 0) none (valueIn n ps)) p

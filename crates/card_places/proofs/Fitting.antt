@@ -12,14 +12,14 @@ use Rattle.byte_strings.specs.Texts.{text}
 use Rattle.byte_strings.proofs.Flags.{nope, and-first}
 use Rattle.text_forms.specs.Forms.{inForm}
 use Rattle.text_forms.specs.declared.Form.{Form}
-use Rattle.text_forms.specs.declared.Form.the-variants.{Timestamp, Algorithm, Number, Digits, Hex, Name}
+use Rattle.text_forms.specs.declared.Form.the-variants.{Timestamp, Algorithm, Number, Digits, Hex, Name, Label}
 use Rattle.card_entries.specs.Entries.{nameBytes}
-use Rattle.card_attributes.specs.Table.{ACT, BDT, CLM, CLU, DKG, IUT, KCV, KEN, KRN, KSL, KTC, SBM, SGC, ULM, VND, table}
+use Rattle.card_attributes.specs.Table.{ACT, BDT, CLM, CLU, DKG, IUT, KCV, KEN, KRN, KSL, KTC, SBM, SGC, SGN, ULM, VND, table}
 use Rattle.card_stored.specs.Stored.{isStored}
 use Rattle.text_patterns.specs.Patterns.{fits}
 use Rattle.text_patterns.proofs.PatternLaws.{fits-append, fits-length}
 use Rattle.card_steps.specs.Steps.{startsWith, after, isLong}
-use Rattle.card_places.specs.Places.{afterAll, afterFitting, isClear}
+use Rattle.card_places.specs.Places.{afterAll, afterKept, afterFitting, isClear}
 use Rattle.card_steps.proofs.EntryPlaces.{starts-front}
 use Rattle.card_places.proofs.Shapes.{Told, noMore, stampShape, isPlain, digits-told, hex-told, number-told, from-zero-told, algorithm-told, stamp-told, name-fits}
 use Rattle.card_places.proofs.Rows.{Row, pattern, tests, afterRows, after-rows}
@@ -200,11 +200,13 @@ module _ (s : List ℕ) (ken : ℕ) (a : Eighth s ken) (krn : ℕ) (b : krn ≡ 
         unfolding table
         sgc-place = e ∙ rows-told level s ktc refl ∙ rw (d, c, b, a)
 
-        module _ (ulm : ℕ) (g : ulm ≡ afterFitting (pattern group) s sgc) (vnd : ℕ) (h : vnd ≡ after ULM (Number 9 0 999999999) s ulm)
-            (end : ℕ) (i : end ≡ after VND (Number 9 0 999999999) s vnd) where
-          all-places : end ≡ afterAll table s 0
+        module _ (sgn : ℕ) (f : sgn ≡ afterFitting (pattern group) s sgc) where
+          sgn-place : sgn ≡ afterAll (take 13 table) s 0
           unfolding table
-          all-places = rw (i, h, g, rows-told group s sgc refl, sgc-place)
+          sgn-place = f ∙ rows-told group s sgc refl ∙ rw sgc-place
 
-          pub is-stored : (r : Bool) → r ≡ isClear s end → r ≡ isStored s
-          is-stored r q = stored-after s end all-places r q
+          module _ (vnd : ℕ) (h : vnd ≡ after ULM (Number 9 0 999999999) s (afterKept SGN (Label 24) s sgn))
+              (end : ℕ) (i : end ≡ after VND (Number 9 0 999999999) s vnd) where
+            pub is-stored : (r : Bool) → r ≡ isClear s end → r ≡ isStored s
+            unfolding table
+            is-stored r q = stored-after s end (rw (i, h, sgn-place)) r q

@@ -2,6 +2,7 @@
 use mathlib.Core.Path.{_≡_, refl, sym, ap, _∙_}
 use mathlib.Core.Bool.{Bool, true, false, not}
 use mathlib.Core.List.{List, [], _∷_, _++_}
+use mathlib.Core.Logic.{⊎-elim}
 use mathlib.Core.Option.{some}
 use Prim.Native.Nat.{ℕ, _+_, _-_, _≤_, _<_}
 use native.Mathlib.Omega.{arith}
@@ -17,7 +18,7 @@ use Rattle.text_forms.specs.declared.Form.{Form}
 use Rattle.text_forms.specs.declared.Form.the-variants.{Number, Digits, Name}
 use Rattle.card_entries.specs.Entries.{entryLength, valueIn, valueOf, orElse}
 use Rattle.card_entries.proofs.EntryLaws.{a-name}
-use Rattle.card_attributes.specs.Table.{KRN, KSL, SGC, table, name, form}
+use Rattle.card_attributes.specs.Table.{KRN, KSL, SGC, table, always, name, form}
 use Rattle.card_attributes.specs.declared.Attribute.{Attribute}
 use Rattle.card_attributes.specs.declared.Presence.the-variants.{Required, Engine}
 use Rattle.card_attributes.proofs.TableLaws.{allRows}
@@ -85,27 +86,27 @@ module _ (n : ℕ) (h : 0 < n) (f : Form) (s : List ℕ) (at : ℕ) (w : Stands 
     value-long : e ≡ at + (m + 4)
     value-long = omega (arith, ends, entry-long n h f m x (drop at s) (w .starts))
 
--- the attribute a of the table in a card as stored: `at` is the place of its entry, e the one after it
-module _ (ps : List Attribute) (a : Attribute) (qs : List Attribute) (t : table ≡ ps ++ (a ∷ qs)) (d : T (allRows (isOther a) ps)) (h : 0 < name a)
-    (s : List ℕ) (o : isStored s ≡ true) (at : ℕ) (p : at ≡ afterAll ps s 0) where
-  all-stored : isStoredFrom (ps ++ (a ∷ qs)) s ≡ true
-  all-stored = rw (← t) (stored-walk s o)
+-- the attribute a, which every stored card has, in a card as stored, with SGN or without: `at` is the place of its entry
+module _ (ps : List Attribute) (a : Attribute) (qs : List Attribute) (t : table ≡ ps ++ (a ∷ qs)) (rs : List Attribute) (u : always ≡ ps ++ (a ∷ rs))
+    (d : T (allRows (isOther a) ps)) (h : 0 < name a) (s : List ℕ) (o : isStored s ≡ true) (at : ℕ) (p : at ≡ afterAll ps s 0) where
+  either : {A : Type 0} → ((ls : List Attribute) → isStoredFrom (ps ++ (a ∷ ls)) s ≡ true → A) → A
+  either f = ⊎-elim (λ (e : isStoredFrom always s ≡ true). f rs (rw u at e)) (λ (e : isStoredFrom table s ≡ true). f qs (rw t at e)) (stored-walk s o)
 
   its-entry : Stands (name a) (form a) s at
-  its-entry = rw p (stands-at a qs s ps 0 (omega arith) all-stored)
+  its-entry = rw p (either (λ ls e. stands-at a ls s ps 0 (omega arith) e))
 
   its-value : valueOf (name a) s ≡ some (entryValue (drop at s))
-  its-value = sym (a-name s (name a) (λ z. omega (arith, z, h))) ∙ rw p (value-at a qs s ps d 0 (omega arith) all-stored)
+  its-value = sym (a-name s (name a) (λ z. omega (arith, z, h))) ∙ rw p (either (λ ls e. value-at a ls s ps d 0 (omega arith) e))
 
 -- KSL
 module _ (s : List ℕ) (o : isStored s ≡ true) (ksl : ℕ) (p : ksl ≡ afterAll (take 9 table) s 0) where
   ksl-entry : Stands KSL Name s ksl
-  unfolding table
-  ksl-entry = its-entry (take 9 table) (KSL, Engine, Name) (drop 10 table) refl tt (omega arith) s o ksl p
+  unfolding table always
+  ksl-entry = its-entry (take 9 table) (KSL, Engine, Name) (drop 10 table) refl (drop 10 always) refl tt (omega arith) s o ksl p
 
   ksl-value : valueOf KSL s ≡ some (entryValue (drop ksl s))
-  unfolding table
-  ksl-value = its-value (take 9 table) (KSL, Engine, Name) (drop 10 table) refl tt (omega arith) s o ksl p
+  unfolding table always
+  ksl-value = its-value (take 9 table) (KSL, Engine, Name) (drop 10 table) refl (drop 10 always) refl tt (omega arith) s o ksl p
 
   module _ (ktc : ℕ) (q : ktc ≡ afterAll (take 10 table) s 0) where
     ksl-next : ktc ≡ after KSL Name s ksl
@@ -142,12 +143,12 @@ module _ (n : ℕ) (f : Form) (m : ℕ) (h : 0 < n) (x : isLong f m ≡ true) (s
 module _ (s : List ℕ) (o : isStored s ≡ true) where
   module _ (krn : ℕ) (p : krn ≡ afterAll (take 8 table) s 0) where
     krn-entry : Stands KRN (Number 1 1 9) s krn
-    unfolding table
-    krn-entry = its-entry (take 8 table) (KRN, Required, Number 1 1 9) (drop 9 table) refl tt (omega arith) s o krn p
+    unfolding table always
+    krn-entry = its-entry (take 8 table) (KRN, Required, Number 1 1 9) (drop 9 table) refl (drop 9 always) refl tt (omega arith) s o krn p
 
     krn-value : valueOf KRN s ≡ some (entryValue (drop krn s))
-    unfolding table
-    krn-value = its-value (take 8 table) (KRN, Required, Number 1 1 9) (drop 9 table) refl tt (omega arith) s o krn p
+    unfolding table always
+    krn-value = its-value (take 8 table) (KRN, Required, Number 1 1 9) (drop 9 table) refl (drop 9 always) refl tt (omega arith) s o krn p
 
     pub revision-end : krn + 4 ≤ length s
     revision-end = fixed-end KRN (Number 1 1 9) 1 (omega arith) refl s krn krn-entry krn-value
@@ -159,12 +160,12 @@ module _ (s : List ℕ) (o : isStored s ≡ true) where
 
   module _ (sgc : ℕ) (p : sgc ≡ afterAll (take 12 table) s 0) where
     sgc-entry : Stands SGC (Digits 10) s sgc
-    unfolding table
-    sgc-entry = its-entry (take 12 table) (SGC, Required, Digits 10) (drop 13 table) refl tt (omega arith) s o sgc p
+    unfolding table always
+    sgc-entry = its-entry (take 12 table) (SGC, Required, Digits 10) (drop 13 table) refl (drop 13 always) refl tt (omega arith) s o sgc p
 
     sgc-value : valueOf SGC s ≡ some (entryValue (drop sgc s))
-    unfolding table
-    sgc-value = its-value (take 12 table) (SGC, Required, Digits 10) (drop 13 table) refl tt (omega arith) s o sgc p
+    unfolding table always
+    sgc-value = its-value (take 12 table) (SGC, Required, Digits 10) (drop 13 table) refl (drop 13 always) refl tt (omega arith) s o sgc p
 
     pub group-end : sgc + 13 ≤ length s
     group-end = fixed-end SGC (Digits 10) 10 (omega arith) refl s sgc sgc-entry sgc-value

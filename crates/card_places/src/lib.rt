@@ -3,6 +3,7 @@
 // pattern: a digit for itself and the smaller ones, F for every hexadecimal digit, any other byte for itself.
 use card_attributes::KEN;
 use card_attributes::KSL;
+use card_attributes::SGN;
 use card_attributes::ULM;
 use card_attributes::VND;
 use text_classes::Class;
@@ -10,11 +11,11 @@ use text_forms::Form;
 ghost use mathlib.Core.Path.{_≡_};
 ghost use Prim.Native.Nat.{_+_, _≤_, _<_};
 ghost use lib.ListN.{length, take};
-ghost use Rattle.text_forms.specs.declared.Form.the-variants.{Number};
-ghost use Rattle.card_attributes.specs.Table.{KEN, KRN, table};
+ghost use Rattle.text_forms.specs.declared.Form.the-variants.{Number, Label};
+ghost use Rattle.card_attributes.specs.Table.{KEN, KRN, SGN, ULM, table};
 ghost use Rattle.card_stored.specs.Stored.{isStored};
 ghost use Rattle.card_steps.specs.Steps.{after};
-ghost use Rattle.card_places.specs.Places.{afterAll, afterFitting, isClear};
+ghost use Rattle.card_places.specs.Places.{afterAll, afterKept, afterFitting, isClear};
 
 // The place after entries whose values have one length, told by a pattern.
 fn after_fitting(s: &[u8], at: usize, pattern: &[u8]) -> usize
@@ -78,6 +79,22 @@ fn after_first(s: &[u8]) -> usize
     93
 }
 
+// The place after the entry of ULM, before which that of SGN may stand. ULM is looked for first, since most cards have
+// no SGN.
+fn after_limit(s: &[u8], at: usize) -> usize
+    requires { ⌜ at ≤ length (now s) + 1 ⌝ }
+    ensures { λ r. ⌜ r
+        ≡ after ULM (Number 9 0 999999999) (now (s .entry)) (afterKept SGN (Label 24) (now (s .entry)) at) ⌝ }
+    ensures within { λ r. ⌜ r ≤ length (now (s .entry)) + 1 ⌝ }
+{
+    let end = card_steps::after_number(s, at, ULM, 9, 999999999);
+    if end <= s.len() {
+        return end;
+    }
+    let ulm = card_steps::after_any(s, at, SGN, Form::Label(24));
+    card_steps::after_number(s, ulm, ULM, 9, 999999999)
+}
+
 // Whether s is 256 bytes, and from a place within them on only zeros stand.
 fn is_clear(s: &[u8], at: usize) -> bool
     ensures { λ r. ⌜ r ≡ isClear (now (s .entry)) at ⌝ }
@@ -113,8 +130,8 @@ pub fn find_places(card: &[u8]) -> Places
     let ksl = after_revision(card, krn);
     let ktc = card_steps::after_any(card, ksl, KSL, Form::Name);
     let sgc = after_fitting(card, ktc, b"KTC3;SBMFFFF;");
-    let ulm = after_fitting(card, sgc, b"SGC9999999999;");
-    let vnd = card_steps::after_number(card, ulm, ULM, 9, 999999999);
+    let sgn = after_fitting(card, sgc, b"SGC9999999999;");
+    let vnd = after_limit(card, sgn);
     let end = card_steps::after_number(card, vnd, VND, 9, 999999999);
     let stored = is_clear(card, end);
     Places {

@@ -21,7 +21,7 @@ use Rattle.text_decimals.proofs.NumberLaws.{number-short}
 use Rattle.text_timestamps.proofs.Plain.{timestamp-length}
 use Rattle.text_forms.specs.Forms.{isAlgorithm, inForm}
 use Rattle.text_forms.specs.declared.Form.{Form}
-use Rattle.text_forms.specs.declared.Form.the-variants.{Timestamp, Algorithm, Number, Digits, Hex, HexSome, Name, Empty}
+use Rattle.text_forms.specs.declared.Form.the-variants.{Timestamp, Algorithm, Number, Digits, Hex, HexSome, Name, Empty, Label}
 use Rattle.text_forms.proofs.FormBounds.{in-form-plain, semicolon, algorithm-is}
 use Rattle.card_entries.specs.Entries.{entryLength, nameOf}
 use Rattle.card_entries.proofs.EntryLaws.{name-length, name-capitals}
@@ -49,12 +49,12 @@ long-value (Hex k) n w v e = eqb-true (length v) k (and-first (eqb (length v) k)
 long-value HexSome n w v e = nope (cc)
 long-value Name n w v e = nope (cc)
 long-value Empty n w v e = eqb-true (length v) 0 e ∙ sym (eqb-true n 0 w)
+long-value (Label k) n w v e = nope (cc)
 
 -- a name is read of its three bytes
-pub name-front : (t : List ℕ) (k : ℕ) → 3 ≤ k → nameOf (take k t) ≡ nameOf (take 3 t)
+pub name-front : (t : List ℕ) (k : ℕ) → 3 ≤ k → nameOf (take k t) ≡ nameOf t
 unfolding nameOf
-name-front t k h =
-    rw (getD-take k t 0 0 (omega arith), getD-take k t 1 0 (omega arith), getD-take k t 2 0 (omega arith), getD-take 3 t 0 0 (omega arith), getD-take 3 t 1 0 (omega arith), getD-take 3 t 2 0 (omega arith))
+name-front t k h = rw (getD-take k t 0 0 (omega arith), getD-take k t 1 0 (omega arith), getD-take k t 2 0 (omega arith))
 
 -- and has no semicolon
 name-plain : (t : List ℕ) → 0 < nameOf (take 3 t) → allOf (isNot 59) (take 3 t) ≡ true
@@ -100,8 +100,11 @@ module _ (name : ℕ) (f : Form) (t : List ℕ) (e : startsWith name f t ≡ tru
     pub starts-three : 3 ≤ entryLength t
     starts-three = omega (arith, starts-taken, name-length (take (entryLength t) t) (omega (arith, h, starts-named)))
 
+    pub starts-name : nameOf t ≡ name
+    starts-name = sym (name-front t (entryLength t) starts-three) ∙ starts-named
+
     pub starts-front : nameOf (take 3 t) ≡ name
-    starts-front = sym (name-front t (entryLength t) starts-three) ∙ starts-named
+    starts-front = name-front t 3 (omega arith) ∙ starts-name
 
 -- what is known of an entry whose value has n bytes
 pub record Framed (name : ℕ) (f : Form) (n : ℕ) (t : List ℕ) : Type 0 where
@@ -145,7 +148,7 @@ module _ (name : ℕ) (h : 0 < name) (f : Form) (n : ℕ) (t : List ℕ) where
     unfolding startsWith
     framed-entry =
         let s : ltb (entryLength t) (length t) ≡ true = lt-ltb (entryLength t) (length t) (omega (arith, framed-long, q .room)) in
-        let m : nameOf (take (entryLength t) t) ≡ name = name-front t (entryLength t) (omega (arith, framed-long)) ∙ q .named in
+        let m : nameOf (take (entryLength t) t) ≡ name = name-front t (entryLength t) (omega (arith, framed-long)) ∙ sym (name-front t 3 (omega arith)) ∙ q .named in
         let k : entryLength t - 3 ≡ n = omega (arith, framed-long) in
         let v : inForm f (drop 3 (take (entryLength t) t)) ≡ true = ap (inForm f) (drop-take 3 (entryLength t) t) ∙ ap (λ (i : ℕ). inForm f (take i (drop 3 t))) k ∙ q .value in
         and-both (ltb (entryLength t) (length t)) _ s (and-both (eqb (nameOf (take (entryLength t) t)) name) _ (eq-eqb _ name m) v)

@@ -15,7 +15,7 @@ use Rattle.card_entries.specs.Entries.{entryLength, nameOf}
 use Rattle.card_entries.proofs.EntryLaws.{name-room, value-here}
 use Rattle.card_attributes.specs.Table.{name}
 use Rattle.card_steps.specs.Steps.{startsWith, after}
-use Rattle.card_steps.proofs.EntryPlaces.{starts-short}
+use Rattle.card_steps.proofs.EntryPlaces.{starts-short, starts-name}
 
 -- after: where an entry stands, and where none does
 module _ (name : ℕ) (f : Form) (s : List ℕ) (at : ℕ) where
@@ -64,6 +64,15 @@ module _ (name : ℕ) (f : Form) (s : List ℕ) (at : ℕ) where
               j ∙ stands name f s at (rw (run-here 59 s at e p, fits, ← q, eq-eqb m name o, value-here, ← v, not-false b i)) (e - at) (run-here 59 s at e p)
 
 pub ruleset anyCases = (any-past, any-open, any-other, any-out, any-in)
+
+-- where another name stands, there is no entry of the name
+module _ (n : ℕ) (h : 0 < n) (f : Form) (s : List ℕ) (at : ℕ) where
+  pub other-name : (nameOf (drop at s) ≡ n → ⊥) → length s + 1 ≡ after n f s at
+  other-name o = go (startsWith n f (drop at s)) refl
+    where
+      go : (t : Bool) → startsWith n f (drop at s) ≡ t → length s + 1 ≡ after n f s at
+      go false e = stands-not n f s at e
+      go true e = absurd (o (starts-name n f (drop at s) e h))
 
 -- an entry that stands ends within the card
 module _ (n : ℕ) (f : Form) (s : List ℕ) (at : ℕ) (e : startsWith n f (drop at s) ≡ true) where

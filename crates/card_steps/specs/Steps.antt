@@ -7,7 +7,8 @@ use lib.ListN.{length, take, drop}
 use Rattle.byte_strings.specs.Texts.{all}
 use Rattle.text_forms.specs.Forms.{inForm}
 use Rattle.text_forms.specs.declared.Form.{Form}
-use Rattle.text_forms.specs.declared.Form.the-variants.{Timestamp, Algorithm, Number, Digits, Hex, HexSome, Name, Empty}
+use Rattle.text_forms.specs.declared.Form.the-variants.{Timestamp, Algorithm, Number, Digits, Hex, HexSome, Name}
+use Rattle.text_forms.specs.declared.Form.the-variants.{Empty, Label}
 use Rattle.card_entries.specs.Entries.{entryLength, nameOf}
 
 -- s starts with an entry of the name, its value in form
@@ -33,3 +34,4 @@ isLong (Hex k) n = eqb k n
 isLong HexSome n = false
 isLong Name n = false
 isLong Empty n = eqb n 0
+isLong (Label k) n = false

@@ -1,7 +1,8 @@
 -- A card as stored read entry by entry, beside the attributes: the shape of the proofs, and that it says the same.
 use mathlib.Core.Path.{_≡_, refl, sym, ap, subst, _∙_}
-use mathlib.Core.Bool.{Bool, true, false, cond, not, _&&_, and-false}
+use mathlib.Core.Bool.{Bool, true, false, cond, not, _&&_, _||_, and-false}
 use mathlib.Core.List.{List, [], _∷_, _++_, append-assoc, append-nil}
+use mathlib.Core.Logic.{_⊎_}
 use Prim.Native.Nat.{ℕ, suc, _+_, _<_}
 use native.Mathlib.Omega.{arith}
 use lib.Dec.{T, eqb, ltb, ltb→lt}
@@ -9,7 +10,7 @@ use lib.ListN.{length, take, drop, length-append, take-append-drop}
 use lib.Seq.{take-at, take-length, drop-append-add}
 use borrow.Author.Tests.{eqb-true, lt-ltb, le-ltb, ltb-true, ltb-false}
 use Rattle.byte_strings.specs.Strings.{run, isNot, allOf}
-use Rattle.byte_strings.proofs.Flags.{nope, and-first, and-second, and-left, and-right}
+use Rattle.byte_strings.proofs.Flags.{nope, and-first, and-second, and-left, and-right, or-cases}
 use Rattle.byte_strings.proofs.StringLaws.{run-le, all-run, all-parts, all-wider, all-drop}
 use Rattle.byte_pieces.specs.Pieces.{pieces, isEnded}
 use Rattle.byte_pieces.proofs.PieceLaws.{pieces-first, pieces-none, pieces-cons, ended-cons, not-ended}
@@ -20,7 +21,7 @@ use Rattle.text_forms.specs.Forms.{inForm}
 use Rattle.text_forms.proofs.FormBounds.{in-form-text}
 use Rattle.card_entries.specs.Entries.{entryLength, nameOf}
 use Rattle.card_entries.proofs.EntryLaws.{name-capitals}
-use Rattle.card_attributes.specs.Table.{table, name, form}
+use Rattle.card_attributes.specs.Table.{table, always, name, form}
 use Rattle.card_attributes.specs.declared.Attribute.{Attribute}
 use Rattle.card_attributes.proofs.TableLaws.{allRows}
 use Rattle.card_stored.specs.Stored.{isEntryOf, areEntriesOf, isStored}
@@ -114,13 +115,35 @@ by-entries (a ∷ rs) w c z o q = go (ltb (run (isNot 59) c) (length c)) refl (b
         let m : allOf (isNot 59) c ≡ true = rw (k, take-length) at (run-all (isNot 59) c) in
         rw (uncut a (ltb→lt 0 (name a) (and-left (isSome a) (allRows isSome rs) w)) rs c m z q, pieces-none 59 c k, and-false)
 
--- THE LAW
-pub stored-by-entries : (s : List ℕ) → isStored s ≡ (eqb (length s) 256 && isStoredFrom table s)
-unfolding isStored table
-stored-by-entries s =
-    let n = run (isNot 0) s in
-    let e = by-entries table tt (take n s) (drop n s) (run-all (isNot 0) s) (run-over (isNot 0) s) in
-    ap (λ (b : Bool). eqb (length s) 256 && b) (sym (ap (isStoredFrom table) (sym (take-append-drop n s)) ∙ e))
+-- of one list of attributes, or of another
+module _ (s : List ℕ) where
+  abbrev before : List ℕ
+  before = take (run (isNot 0) s) s
 
-pub stored-walk : (s : List ℕ) → isStored s ≡ true → isStoredFrom table s ≡ true
-stored-walk s e = and-second (eqb (length s) 256) (isStoredFrom table s) (sym (stored-by-entries s) ∙ e)
+  abbrev after : List ℕ
+  after = drop (run (isNot 0) s) s
+
+  by-list : (rs : List Attribute) → T (allRows isSome rs) → isStoredFrom rs s ≡ (isEnded 59 before && (areEntriesOf rs (pieces 59 before) && areAll Zero after))
+  by-list rs w = ap (isStoredFrom rs) (sym (take-append-drop (run (isNot 0) s) s)) ∙ by-entries rs w before after (run-all (isNot 0) s) (run-over (isNot 0) s)
+
+  by-either : (rs qs : List Attribute) → T (allRows isSome rs) → T (allRows isSome qs)
+      → (isStoredFrom rs s || isStoredFrom qs s) ≡ (isEnded 59 before && ((areEntriesOf rs (pieces 59 before) || areEntriesOf qs (pieces 59 before)) && areAll Zero after))
+  by-either rs qs w v = rw (by-list rs w, by-list qs v) (either (isEnded 59 before) (areEntriesOf rs (pieces 59 before)) (areEntriesOf qs (pieces 59 before)) (areAll Zero after))
+    where
+      either : (e x y w : Bool) → (e && (x && w) || e && (y && w)) ≡ (e && ((x || y) && w))
+      either false x y w = refl
+      either true true y true = refl
+      either true true true false = refl
+      either true true false false = refl
+      either true false y w = refl
+
+-- THE LAW
+pub stored-by-entries : (s : List ℕ) → isStored s ≡ (eqb (length s) 256 && (isStoredFrom always s || isStoredFrom table s))
+unfolding isStored table always
+stored-by-entries s = ap (λ (b : Bool). eqb (length s) 256 && b) (sym (by-either s always table tt tt))
+
+-- so one as stored is of one kind or the other
+pub stored-walk : (s : List ℕ) → isStored s ≡ true → (isStoredFrom always s ≡ true) ⊎ (isStoredFrom table s ≡ true)
+stored-walk s e =
+    or-cases (isStoredFrom always s) (isStoredFrom table s)
+    (and-second (eqb (length s) 256) (isStoredFrom always s || isStoredFrom table s) (sym (stored-by-entries s) ∙ e))

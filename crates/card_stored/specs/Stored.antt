@@ -1,18 +1,19 @@
--- The stored card, which has all fifteen attributes, and the test of a card as stored (document 01, Cards and
--- question 3).
+-- The stored card, which has fifteen attributes and SGN where the incoming card has it, and the test of a card as
+-- stored (document 01, Cards and question 3; document 02, N2).
 use Prim.Native.Nat.{ℕ, _-_}
-use mathlib.Core.Bool.{Bool, true, false, cond, _&&_}
+use mathlib.Core.Bool.{Bool, true, false, cond, _&&_, _||_}
 use mathlib.Core.List.{List, [], _∷_, _++_}
 use lib.Dec.{eqb}
 use lib.ListN.{length, take, drop, replicate}
 use Rattle.byte_strings.specs.Texts.{text, all}
 use Rattle.byte_strings.specs.Strings.{run, isNot}
+use Rattle.byte_strings.specs.Lists.{rowsThat}
 use Rattle.byte_pieces.specs.Pieces.{isEnded}
 use Rattle.text_classes.specs.Classes.{areAll}
 use Rattle.text_classes.specs.declared.Class.the-variants.{Zero}
 use Rattle.text_forms.specs.Forms.{inForm}
-use Rattle.card_entries.specs.Entries.{semicolon, entries, nameOf, valueOr, entryBytes}
-use Rattle.card_attributes.specs.Table.{CLU, KCV, KSL, VND, table, name, form}
+use Rattle.card_entries.specs.Entries.{semicolon, entries, nameOf, valueOf, isSome, valueOr, entryBytes}
+use Rattle.card_attributes.specs.Table.{CLU, KCV, KSL, VND, table, isAlways, always, name, presence, form}
 use Rattle.card_attributes.specs.declared.Attribute.{Attribute}
 
 -- the default card (001 example 6.3.5.4)
@@ -44,9 +45,17 @@ abbrev pub cardBytes : List Attribute → (ℕ → List ℕ) → List ℕ
 cardBytes [] f = []
 cardBytes (a ∷ rs) f = entryBytes (name a) (f (name a)) ++ cardBytes rs f
 
--- the stored card has all fifteen, ascending
+-- an attribute of the card that is stored: every stored card has it, or the incoming card does
+abbrev pub isStoredOf : List ℕ → Attribute → Bool
+isStoredOf card a = isAlways (presence a) || isSome (valueOf (name a) card)
+
+-- all of these: SGN only where the incoming card has it
+abbrev pub rowsFor : List ℕ → List Attribute
+rowsFor card = rowsThat (isStoredOf card) table
+
+-- the stored card has them, ascending
 unfoldable pub storedCard : List ℕ → EngineValues → List ℕ
-storedCard card own = cardBytes table (storedValue card own)
+storedCard card own = cardBytes (rowsFor card) (storedValue card own)
 
 -- in 256 bytes of space, zero after its end
 unfoldable pub inRow : List ℕ → List ℕ
@@ -71,9 +80,10 @@ areEntriesOf (a ∷ rs) (p ∷ ps) = isEntryOf a p && areEntriesOf rs ps
 unfoldable pub isStored : List ℕ → Bool
 isStored s =
     let n = run (isNot 0) s in
+    let es = entries (take n s) in
     all (
     eqb (length s) 256  -- 256 bytes of space
     ∷ isEnded semicolon (take n s)  -- each entry ends with a semicolon
-    ∷ areEntriesOf table (entries (take n s))  -- all fifteen, ascending
+    ∷ (areEntriesOf always es || areEntriesOf table es)  -- the fifteen, or with SGN sixteen, ascending
     ∷ areAll Zero (drop n s)  -- zero after its end
     ∷ [])

@@ -1,23 +1,30 @@
-// Writes the stored card, which has all fifteen attributes, from an incoming one (document 01, Cards).
+// Writes the stored card, which has fifteen attributes and SGN where the incoming card has it, from an incoming one
+// (document 01, Cards; document 02, N2).
 use byte_bounds::Bounds;
+use card_attributes::Attribute;
 use card_attributes::CLM;
 use card_attributes::CLU;
 use card_attributes::IUT;
 use card_attributes::KCV;
 use card_attributes::KSL;
+use card_attributes::Presence;
 use card_attributes::ROWS;
 use card_attributes::SBM;
 use card_attributes::ULM;
 use card_attributes::VND;
 ghost use mathlib.Core.Path.{_≡_};
+ghost use mathlib.Core.Bool.{not, _||_};
 ghost use mathlib.Core.List.{[]};
 ghost use Prim.Native.Nat.{_+_, _≤_, _<_};
+ghost use lib.Dec.{eqb};
 ghost use lib.ListN.{length};
 ghost use Rattle.byte_strings.specs.Wrote.{Writes};
 ghost use Rattle.byte_strings.specs.Texts.{text};
+ghost use Rattle.card_attributes.specs.Table.{name, isAlways};
 ghost use Rattle.card_entries.specs.Entries.{entryBytes, orElse, valueOf};
 ghost use Rattle.card_incoming.specs.Incoming.{IsValue, AreValues};
 ghost use Rattle.card_stored.specs.Stored.{loadValues, defaultCard, storedValue, storedCard, inRow};
+ghost use Rattle.card_writer.specs.Written.{writtenOf};
 
 // Writes an entry.
 fn put_entry(dst: &mut [u8], at: usize, name: u32, v: &[u8]) -> usize
@@ -80,11 +87,51 @@ fn load_value<'a>(
     byte_bounds::part(card, bounds)
 }
 
+// Whether the stored card has an entry of an attribute of this presence, whose value in the incoming card has the
+// bounds.
+fn has_entry(presence: Presence, bounds: Bounds) -> bool
+    ensures { λ r. ⌜ r ≡ (isAlways presence || not (eqb (bounds .start) 0)) ⌝ }
+{
+    match presence {
+        Presence::Required => true,
+        Presence::Optional => true,
+        Presence::Engine => true,
+        Presence::Kept => bounds.start != 0,
+    }
+}
+
+// Writes the entry of an attribute, where the stored card has it.
+fn put_attribute<'a>(
+    dst: &mut [u8],
+    at: usize,
+    a: Attribute,
+    card: &'a [u8],
+    bounds: Bounds,
+    default: &'a [u8],
+    zero: &'a [u8],
+    check: &'a [u8],
+    slot: &'a [u8],
+) -> usize
+    requires { ⌜ IsValue (now card) (name a) bounds × (now default ≡ defaultCard) × (now zero ≡ text "0")
+        × (name a < 16777216)
+        × (at + length (writtenOf (now card) (loadValues (now check) (now slot)) a) ≤ length (now dst)) ⌝ }
+    ensures { λ r. ⌜ Writes dst at
+        (writtenOf (now (card .entry)) (loadValues (now (check .entry)) (now (slot .entry))) a) r ⌝ }
+{
+    let name = a.0;
+    let presence = a.1;
+    if !has_entry(presence, bounds) {
+        return at;
+    }
+    let v = load_value(name, card, bounds, default, zero, check, slot);
+    put_entry(dst, at, name, v)
+}
+
 // Writes the card that a load stores from the start on.
 fn put_stored<'a>(
     dst: &mut [u8],
     card: &'a [u8],
-    values: [Bounds; 15],
+    values: [Bounds; ROWS],
     check: &'a [u8],
     slot: &'a [u8],
 ) -> usize
@@ -99,9 +146,7 @@ fn put_stored<'a>(
     let mut k = 0;
     while k < ROWS {
         let a = card_attributes::row(k);
-        let name = a.0;
-        let v = load_value(name, card, values[k], default, zero, check, slot);
-        at = put_entry(dst, at, name, v);
+        at = put_attribute(dst, at, a, card, values[k], default, zero, check, slot);
         k += 1;
     }
     at
@@ -111,7 +156,7 @@ fn put_stored<'a>(
 // end.
 pub fn write_stored<'a>(
     card: &'a [u8],
-    values: [Bounds; 15],
+    values: [Bounds; ROWS],
     check: &'a [u8],
     slot: &'a [u8],
 ) -> [u8; 256]

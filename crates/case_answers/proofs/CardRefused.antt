@@ -10,8 +10,8 @@ use Rattle.text_forms.specs.Forms.{inForm}
 use Rattle.text_forms.specs.declared.Form.the-variants.{HexSome}
 use Rattle.card_incoming.specs.Incoming.{isIncoming}
 use Rattle.record_types.specs.KeyRecords.{bar, keyInForm}
-use Rattle.case_samples.specs.Samples.{Sample, sum, reads, timestamp, card, AllHold, samples}
-use Rattle.case_samples.proofs.Hold.{all-hold}
+use Rattle.case_samples.specs.Samples.{Sample, sum, reads, timestamp, card, row, AllHold, samples, nameSamples}
+use Rattle.case_samples.proofs.Hold.{all-hold, names-hold}
 use Rattle.message_commands.specs.declared.Command.the-variants.{KL}
 use Rattle.engine.specs.Requests.{commandIn, fieldsIn, recordIn, cardIn}
 use Rattle.engine.specs.Questions.{Call, Question, _otherwise_, tableQuestions, messageQuestions, payloadQuestions, questions, firstNo}
@@ -61,13 +61,14 @@ module _ (x : Call) where
     pub card-number : outcomeNumber (answerOf x .outcome) ≡ 10
     card-number = rw card-refused refl
 
--- SAMPLES. The cards of the samples that are not in form: KRN6 before KEN255, and KRN0
+-- SAMPLES. The cards of the samples that are not in form: KRN6 before KEN255, and KRN0; an SGN of 25 bytes, with a byte outside, twice, or out of place
 abbrev pub badCards : List Sample → List (List ℕ)
 badCards [] = []
 badCards (sum s digits ∷ xs) = badCards xs
 badCards (reads s v ∷ xs) = badCards xs
 badCards (timestamp s b ∷ xs) = badCards xs
 badCards (card s b ∷ xs) = cond b (badCards xs) (s ∷ badCards xs)
+badCards (row s b ∷ xs) = badCards xs
 
 -- every load of that card, of which everything asked before question 10 is a yes, is refused with 10
 abbrev pub RefusedWith10 : List ℕ → Type 0
@@ -88,13 +89,21 @@ each-bad [] h = tt
 each-bad (sum s digits ∷ xs) h = each-bad xs (h .1)
 each-bad (reads s v ∷ xs) h = each-bad xs (h .1)
 each-bad (timestamp s b ∷ xs) h = each-bad xs (h .1)
+each-bad (row s b ∷ xs) h = each-bad xs (h .1)
 each-bad (card s true ∷ xs) h = each-bad xs (h .1)
 each-bad (card s false ∷ xs) h = (bad-refused s (h .0), each-bad xs (h .1))
 
 pub each-refused : EachRefused (badCards samples)
 each-refused = each-bad samples all-hold
 
--- both of them
+pub names-refused : EachRefused (badCards nameSamples)
+names-refused = each-bad nameSamples names-hold
+
+-- both of them, and six with an SGN
 pub two-cards : length (badCards samples) ≡ 2
 unfolding samples
 two-cards = refl
+
+pub six-names : length (badCards nameSamples) ≡ 6
+unfolding nameSamples
+six-names = refl

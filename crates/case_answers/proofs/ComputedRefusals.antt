@@ -1,8 +1,9 @@
--- The two cards in whole requests, over rows whose slot is LOADING: the answer is what the definition computes.
+-- The two cards, and one with a longer SGN, in whole requests, over rows whose slot is LOADING: the answer is what the definition computes.
 use mathlib.Core.Path.{_≡_, refl}
 use mathlib.Core.List.{List, [], _∷_, map, _++_}
 use mathlib.Core.Option.{some}
 use Prim.Native.Nat.{ℕ}
+use lib.ListN.{take}
 use Rattle.byte_strings.specs.Texts.{text}
 use Rattle.check_crc.specs.Crc.{crcBit, crcEight, crcByte}
 use Rattle.check_digits.specs.Hex.{hexDigit}
@@ -36,7 +37,7 @@ use Rattle.engine.specs.Words.{Lent, callOf}
 use Rattle.engine.specs.declared.Refusal.the-variants.{BadForm}
 use Rattle.engine.specs.declared.Outcome.the-variants.{Refused}
 use Rattle.row_types.specs.declared.SlotState.the-variants.{Loading}
-use Rattle.case_samples.specs.Samples.{samples}
+use Rattle.case_samples.specs.Samples.{samples, nameSamples}
 use Rattle.case_run.specs.Run.{hand, a, printA, lent}
 use Rattle.case_answers.proofs.CardRefused.{badCards}
 
@@ -60,6 +61,14 @@ pub sample-cards : map (λ (q : List ℕ). cardIn (recordIn KL (fieldsIn q))) re
 unfolding areAll typed valuesOf textOf payloadOf field recordIn samples
 sample-cards = refl
 
+-- SM?KLPA~PKEY.1|01|ACT20130716T151031Z;BDT20130716T151031Z;DKG04;KEN255;KRN6;KTC2;SGC0000758825;SGNSURELOAD KMC TEST VUDK 12;|02|3F91~CE6B
+abbrev pub longName : List ℕ
+longName = text "SM?KLPA~PKEY.1|01|ACT20130716T151031Z;BDT20130716T151031Z;DKG04;KEN255;KRN6;KTC2;SGC0000758825;" ++ text "SGNSURELOAD KMC TEST VUDK 12;|02|3F91~CE6B\r"
+
+pub name-card : map (λ (q : List ℕ). cardIn (recordIn KL (fieldsIn q))) (longName ∷ []) ≡ take 1 (badCards nameSamples)
+unfolding areAll typed valuesOf textOf payloadOf field recordIn nameSamples
+name-card = refl
+
 abbrev pub reply10 : Reply
 reply10 = record { header = text "SM!KL"; status = text "EE"; fields = string (text "KM.10") ∷ [] }
 
@@ -67,12 +76,12 @@ pub reply10-bytes : replyBytes reply10 ≡ text "SM!KLEEPKM.10~4705\r"
 unfolding crcBit crcEight crcByte hexDigit sumDigits contentBytes ending framed replyBytes
 reply10-bytes = refl
 
--- each is answered so, and every row stays
+-- each is answered so, as is an SGN of 25 bytes, and every row stays
 abbrev pub EachAnswered : List (List ℕ) → Type 0
 EachAnswered [] = Unit {0}
 EachAnswered (q ∷ qs) =
     (answerOf (callOf loading (hand q)) ≡ record { outcome = Refused BadForm; reply = some reply10; slots = loading .slots; registers = loading .registers }) × EachAnswered qs
 
-pub each-answered : EachAnswered requests
+pub each-answered : EachAnswered (longName ∷ requests)
 unfolding crcBit crcEight crcByte hexDigit sumDigits endsInSum isAlphanumeric areAll isIdentifier isUnpadded isNumber daysIn isDate isTime isDateAndTime timestampOf isTimestamp typed valuesOf contentBytes endsInReturn isWhole isChecked textOf headerOf payloadOf ending framed answered headers commandOf bodyOf field isRecord isAlgorithm table nameOf valueOf fits isCard isMet isIncoming identityInForm keyInForm padded trimmed isVacant attributeOf isRegisterSound isSameKey freeRegister isZeroSlot isNamed isFilledSlot isSlotSound isSameSlot freeSlot filledSlot isOwned areSound isIdentityRight isLoadRequestRight isWellFormed areFieldsOf recordIn areCounts questions refused answerOf
-each-answered = (refl, (refl, tt))
+each-answered = (refl, (refl, (refl, tt)))

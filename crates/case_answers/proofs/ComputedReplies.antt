@@ -20,7 +20,7 @@ use Rattle.message_commands.specs.Commands.{headers, commandOf}
 use Rattle.message_replies.specs.Responses.{replyBytes}
 use Rattle.record_parser.specs.Records.{bodyOf, field, isRecord}
 use Rattle.text_forms.specs.Forms.{isAlgorithm}
-use Rattle.card_attributes.specs.Table.{table}
+use Rattle.card_attributes.specs.Table.{table, always}
 use Rattle.card_entries.specs.Entries.{nameOf, valueOf}
 use Rattle.card_incoming.specs.Incoming.{fits, isCard, isMet, isIncoming}
 use Rattle.card_stored.specs.Stored.{inRow, isEntryOf, isStored}
@@ -89,7 +89,7 @@ EachReplied [] = Unit {0}
 EachReplied (r ∷ rs) = (response (answerOf (callOf replyRows (hand (r .request)))) ≡ r .answer) × EachReplied rs
 
 pub each-replied : EachReplied replyCases
-unfolding crcBit crcEight crcByte hexDigit sumDigits endsInSum isAlphanumeric areAll isIdentifier isUnpadded isNumber daysIn isDate isTime isDateAndTime timestampOf isTimestamp typed valuesOf contentBytes endsInReturn isWhole isChecked textOf headerOf payloadOf ending framed answered headers commandOf replyBytes bodyOf field isRecord isAlgorithm table nameOf valueOf fits isCard isMet isIncoming identityInForm keyInForm padded trimmed isVacant attributeOf isRegisterSound isSameKey freeRegister isZeroSlot isNamed isFilledSlot isSlotSound isSameSlot freeSlot filledSlot isOwned areSound isIdentityRight isLoadRequestRight isWellFormed areFieldsOf recordIn areCounts questions refused answers.answered answerOf isStored isEntryOf inRow filledRegister isOctets isUnder isKeyOf slotIn slotNamed isFilled stateText slotFields queryFields decDigits decimalBytes
+unfolding crcBit crcEight crcByte hexDigit sumDigits endsInSum isAlphanumeric areAll isIdentifier isUnpadded isNumber daysIn isDate isTime isDateAndTime timestampOf isTimestamp typed valuesOf contentBytes endsInReturn isWhole isChecked textOf headerOf payloadOf ending framed answered headers commandOf replyBytes bodyOf field isRecord isAlgorithm table always nameOf valueOf fits isCard isMet isIncoming identityInForm keyInForm padded trimmed isVacant attributeOf isRegisterSound isSameKey freeRegister isZeroSlot isNamed isFilledSlot isSlotSound isSameSlot freeSlot filledSlot isOwned areSound isIdentityRight isLoadRequestRight isWellFormed areFieldsOf recordIn areCounts questions refused answers.answered answerOf isStored isEntryOf inRow filledRegister isOctets isUnder isKeyOf slotIn slotNamed isFilled stateText slotFields queryFields decDigits decimalBytes
 each-replied = (refl, (refl, (refl, (refl, tt))))
 
 -- which key may vend: that of register 1, under B, where B is IDLE, and not while B is PENDING or LOADING; no register that is free, 0 or beyond the rows
@@ -100,10 +100,10 @@ abbrev slotB : SlotState → List ℕ → SlotRow
 slotB state tvp = filledSlot state b printB tvp
 
 pub vends : isUsable (tablesWith (slotB Idle [])) 1 ≡ true
-unfolding areAll isUnpadded isNumber daysIn isDate isTime isDateAndTime timestampOf isTimestamp isAlphanumeric isIdentifier isAlgorithm table nameOf valueOf inRow isEntryOf isStored padded trimmed isVacant attributeOf isKeyOf isRegisterSound isSameKey freeRegister filledRegister isZeroSlot isNamed isFilledSlot isSlotSound isSameSlot freeSlot filledSlot isOwned areSound slotNamed areCounts isFilled isUsable
+unfolding areAll isUnpadded isNumber daysIn isDate isTime isDateAndTime timestampOf isTimestamp isAlphanumeric isIdentifier isAlgorithm table always nameOf valueOf inRow isEntryOf isStored padded trimmed isVacant attributeOf isKeyOf isRegisterSound isSameKey freeRegister filledRegister isZeroSlot isNamed isFilledSlot isSlotSound isSameSlot freeSlot filledSlot isOwned areSound slotNamed areCounts isFilled isUsable
 vends = refl
 
 pub vends-not : (isUsable (tablesWith (slotB Pending clock)) 1 ≡ false) × (isUsable (tablesWith (slotB Loading [])) 1 ≡ false)
     × (isUsable (tablesWith (slotB Idle [])) 0 ≡ false) × (isUsable (tablesWith (slotB Idle [])) 2 ≡ false) × (isUsable (tablesWith (slotB Idle [])) 3 ≡ false)
-unfolding areAll isUnpadded isNumber daysIn isDate isTime isDateAndTime timestampOf isTimestamp isAlphanumeric isIdentifier isAlgorithm table nameOf valueOf inRow isEntryOf isStored padded trimmed isVacant attributeOf isKeyOf isRegisterSound isSameKey freeRegister filledRegister isZeroSlot isNamed isFilledSlot isSlotSound isSameSlot freeSlot filledSlot isOwned areSound slotNamed areCounts isFilled isUsable
+unfolding areAll isUnpadded isNumber daysIn isDate isTime isDateAndTime timestampOf isTimestamp isAlphanumeric isIdentifier isAlgorithm table always nameOf valueOf inRow isEntryOf isStored padded trimmed isVacant attributeOf isKeyOf isRegisterSound isSameKey freeRegister filledRegister isZeroSlot isNamed isFilledSlot isSlotSound isSameSlot freeSlot filledSlot isOwned areSound slotNamed areCounts isFilled isUsable
 vends-not = (refl, refl, refl, refl, refl)

@@ -13,11 +13,11 @@ use Rattle.field_values.specs.Values.{Value}
 use Rattle.message_replies.specs.Responses.{fieldsOf}
 use Rattle.text_forms.specs.declared.Form.the-variants.{Timestamp, Algorithm, Number, Digits, Hex, Name}
 use Rattle.card_entries.specs.Entries.{nameOf, valueOf, orElse, valueOr}
-use Rattle.card_attributes.specs.Table.{ACT, BDT, CLM, CLU, DKG, IUT, KCV, KEN, KRN, KSL, KTC, SBM, SGC, ULM, VND, table, name, presence}
+use Rattle.card_attributes.specs.Table.{ACT, BDT, CLM, CLU, DKG, IUT, KCV, KEN, KRN, KSL, KTC, SBM, SGC, SGN, ULM, VND, table, always, name, presence}
 use Rattle.card_attributes.specs.declared.Presence.the-variants.{Required, Optional, Engine}
 use Rattle.card_attributes.specs.declared.Attribute.{Attribute}
 use Rattle.card_stored.specs.Stored.{defaultCard, loadValues, storedValue, inRow}
-use Rattle.card_laws.proofs.Incoming.{stored-back, required-back, stored-measured}
+use Rattle.card_laws.proofs.Incoming.{stored-back, required-back, sgn-back, sgn-card-back, stored-measured}
 use Rattle.message_commands.specs.declared.Command.{Command}
 use Rattle.message_commands.specs.declared.Command.the-variants.{KL}
 use Rattle.row_types.specs.Lists.{trimmed}
@@ -48,7 +48,7 @@ sbmDefault = text "FFFF"
 abbrev pub ulmDefault : List ℕ
 ulmDefault = text "999999999"
 
--- what the row of a stored card has under each of the fifteen names, from the request's card, the check value and the slot
+-- what the row of a stored card has under each of the sixteen names, from the request's card, the check value and the slot; SGN as the request's card has it
 pub record Stored (card check slot : List ℕ) (row : RegisterRow) : Type 0 where
   pub act : valueOf ACT card ≡ some (attributeOf ACT row)
   pub bdt : valueOf BDT card ≡ some (attributeOf BDT row)
@@ -63,6 +63,7 @@ pub record Stored (card check slot : List ℕ) (row : RegisterRow) : Type 0 wher
   pub ktc : valueOf KTC card ≡ some (attributeOf KTC row)
   pub sbm : attributeOf SBM row ≡ orElse (valueOf SBM card) sbmDefault
   pub sgc : valueOf SGC card ≡ some (attributeOf SGC row)
+  pub sgn : valueOf SGN (row .card) ≡ valueOf SGN card
   pub ulm : attributeOf ULM row ≡ orElse (valueOf ULM card) ulmDefault
   pub vnd : attributeOf VND row ≡ zero
 
@@ -118,8 +119,8 @@ module _ (x : Call) (c : commandIn (x .request) ≡ KL) (y : isYes (answerOf x .
   unfolding answered
   row-is = rw does (getD-set-same (x .registers) place (filledRegister (loadedCard card (x .supplement .check) slot)) freeRegister place-within)
 
-  -- an attribute of the table
-  module _ (j : ℕ) (a : Attribute) (r : List Attribute) (e : drop j table ≡ a ∷ r) where
+  -- an attribute that every stored card has
+  module _ (j : ℕ) (a : Attribute) (r : List Attribute) (e : drop j always ≡ a ∷ r) where
     abbrev value : List ℕ
     value = storedValue card (loadValues (x .supplement .check) slot) (name a)
 
@@ -140,9 +141,14 @@ module _ (x : Call) (c : commandIn (x .request) ≡ KL) (y : isYes (answerOf x .
         let w : valueOf (name a) (row .card) ≡ valueOf (name a) card = rw row-is b in
         sym w ∙ row-has ∙ ap some (sym stored-reads)
 
+  -- SGN
+  sgn-reads : valueOf SGN (row .card) ≡ valueOf SGN card
+  unfolding filledRegister loadedCard areAll isNumber isUnpadded
+  sgn-reads = rw row-is (sgn-back card (is-card x vs yes) (loadValues (x .supplement .check) slot) refl (is-check x vs yes) (is-name x vs yes) refl)
+
   -- THE STORED CARD, name by name
   pub stored-card : Stored card (x .supplement .check) slot row
-  unfolding table storedValue valueOr
+  unfolding table always storedValue valueOr
   stored-card = record {
     act = required-reads 0 (ACT, Required, Timestamp) _ refl refl;
     bdt = required-reads 1 (BDT, Required, Timestamp) _ refl refl;
@@ -157,6 +163,7 @@ module _ (x : Call) (c : commandIn (x .request) ≡ KL) (y : isYes (answerOf x .
     ktc = required-reads 10 (KTC, Required, Number 1 0 3) _ refl refl;
     sbm = stored-reads 11 (SBM, Optional, Hex 4) _ refl ∙ ap (orElse (valueOf SBM card)) sbm-default;
     sgc = required-reads 12 (SGC, Required, Digits 10) _ refl refl;
+    sgn = sgn-reads;
     ulm = stored-reads 13 (ULM, Optional, Number 9 0 999999999) _ refl ∙ ap (orElse (valueOf ULM card)) ulm-default;
     vnd = stored-reads 14 (VND, Engine, Number 9 0 999999999) _ refl;
   }
@@ -178,3 +185,8 @@ module _ (x : Call) (c : commandIn (x .request) ≡ KL) (y : isYes (answerOf x .
     pub answered-card : row .card ≡ inRow (secondText (fieldsOf (response (answerOf x))))
     unfolding filledRegister
     answered-card = rw (says, row-is) refl
+
+    -- SGN of the reply's card is that of the request's
+    pub answered-sgn : valueOf SGN (secondText (fieldsOf (response (answerOf x)))) ≡ valueOf SGN card
+    unfolding loadedCard areAll isNumber isUnpadded
+    answered-sgn = rw says (sgn-card-back card (is-card x vs yes) (loadValues (x .supplement .check) slot) refl (is-check x vs yes) (is-name x vs yes) refl)

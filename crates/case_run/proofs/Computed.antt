@@ -16,7 +16,7 @@ use Rattle.message_commands.specs.Commands.{headers, commandOf}
 use Rattle.message_replies.specs.Responses.{replyBytes, statusOf, fieldsOf}
 use Rattle.record_parser.specs.Records.{bodyOf, field, isRecord}
 use Rattle.text_forms.specs.Forms.{isAlgorithm}
-use Rattle.card_attributes.specs.Table.{table}
+use Rattle.card_attributes.specs.Table.{table, always}
 use Rattle.card_entries.specs.Entries.{nameOf, valueOf, valueOr, entryBytes}
 use Rattle.card_incoming.specs.Incoming.{fits, isCard, isMet, isIncoming}
 use Rattle.card_stored.specs.Stored.{defaultCard, storedValue, storedCard, inRow, isEntryOf, isStored}
@@ -53,15 +53,15 @@ both t [] hs f k = k
 both t (g ∷ gs) hs f k = (f .0, f .1, both (g .after) gs hs (f .2) k)
 
 first-centre : Follows (emptyRows 2 2) centreA
-unfolding crcBit crcEight crcByte hexDigit sumDigits endsInSum isAlphanumeric isMark areAll isIdentifier isUnpadded isNumber isLeap daysIn isDate isTime isDateAndTime timestampOf dateTimeOf isTimestamp isDateTime numberOf isOctets typed valuesOf valueAt nextAt contentBytes endsInReturn isWhole isChecked textOf headerOf payloadOf ending framed requestBytes answered headers commandOf replyBytes statusOf fieldsOf bodyOf field isRecord isAlgorithm table nameOf valueOf valueOr entryBytes fits isCard isMet isIncoming defaultCard storedValue storedCard inRow isEntryOf isStored identityInForm parsesPublicKey publicKeyInForm parsesResponse responseInForm keyInForm padded trimmed isVacant attributeOf isKeyOf isUnder isRegisterSound isSameKey freeRegister filledRegister withoutSlot isZeroSlot isNamed isFilledSlot isSlotSound isSameSlot freeSlot filledSlot resetSlot isOwned areSound isIdentityRight isLoadRequestRight isWellFormed decDigits decimalBytes areFieldsOf recordIn slotIn sessionPlace storePlace slotNamed areCounts isFilled questions slotsPending slotsWithout loadedCard cardPlace answers.refused answers.answered answerOf slotIs registerIs isAccepted emptyRows
+unfolding crcBit crcEight crcByte hexDigit sumDigits endsInSum isAlphanumeric isMark areAll isIdentifier isUnpadded isNumber isLeap daysIn isDate isTime isDateAndTime timestampOf dateTimeOf isTimestamp isDateTime numberOf isOctets typed valuesOf valueAt nextAt contentBytes endsInReturn isWhole isChecked textOf headerOf payloadOf ending framed requestBytes answered headers commandOf replyBytes statusOf fieldsOf bodyOf field isRecord isAlgorithm table always nameOf valueOf valueOr entryBytes fits isCard isMet isIncoming defaultCard storedValue storedCard inRow isEntryOf isStored identityInForm parsesPublicKey publicKeyInForm parsesResponse responseInForm keyInForm padded trimmed isVacant attributeOf isKeyOf isUnder isRegisterSound isSameKey freeRegister filledRegister withoutSlot isZeroSlot isNamed isFilledSlot isSlotSound isSameSlot freeSlot filledSlot resetSlot isOwned areSound isIdentityRight isLoadRequestRight isWellFormed decDigits decimalBytes areFieldsOf recordIn slotIn sessionPlace storePlace slotNamed areCounts isFilled questions slotsPending slotsWithout loadedCard cardPlace answers.refused answers.answered answerOf slotIs registerIs isAccepted emptyRows
 first-centre = (refl, refl, (refl, refl, (refl, refl, (refl, refl, (refl, refl, tt)))))
 
 second-centre : Follows (rowsLeft (emptyRows 2 2) centreA) centreB
-unfolding crcBit crcEight crcByte hexDigit sumDigits endsInSum isAlphanumeric isMark areAll isIdentifier isUnpadded isNumber isLeap daysIn isDate isTime isDateAndTime timestampOf dateTimeOf isTimestamp isDateTime numberOf isOctets typed valuesOf valueAt nextAt contentBytes endsInReturn isWhole isChecked textOf headerOf payloadOf ending framed requestBytes answered headers commandOf replyBytes statusOf fieldsOf bodyOf field isRecord isAlgorithm table nameOf valueOf valueOr entryBytes fits isCard isMet isIncoming defaultCard storedValue storedCard inRow isEntryOf isStored identityInForm parsesPublicKey publicKeyInForm parsesResponse responseInForm keyInForm padded trimmed isVacant attributeOf isKeyOf isUnder isRegisterSound isSameKey freeRegister filledRegister withoutSlot isZeroSlot isNamed isFilledSlot isSlotSound isSameSlot freeSlot filledSlot resetSlot isOwned areSound isIdentityRight isLoadRequestRight isWellFormed decDigits decimalBytes areFieldsOf recordIn slotIn sessionPlace storePlace slotNamed areCounts isFilled questions slotsPending slotsWithout loadedCard cardPlace answers.refused answers.answered answerOf slotIs registerIs isAccepted emptyRows
+unfolding crcBit crcEight crcByte hexDigit sumDigits endsInSum isAlphanumeric isMark areAll isIdentifier isUnpadded isNumber isLeap daysIn isDate isTime isDateAndTime timestampOf dateTimeOf isTimestamp isDateTime numberOf isOctets typed valuesOf valueAt nextAt contentBytes endsInReturn isWhole isChecked textOf headerOf payloadOf ending framed requestBytes answered headers commandOf replyBytes statusOf fieldsOf bodyOf field isRecord isAlgorithm table always nameOf valueOf valueOr entryBytes fits isCard isMet isIncoming defaultCard storedValue storedCard inRow isEntryOf isStored identityInForm parsesPublicKey publicKeyInForm parsesResponse responseInForm keyInForm padded trimmed isVacant attributeOf isKeyOf isUnder isRegisterSound isSameKey freeRegister filledRegister withoutSlot isZeroSlot isNamed isFilledSlot isSlotSound isSameSlot freeSlot filledSlot resetSlot isOwned areSound isIdentityRight isLoadRequestRight isWellFormed decDigits decimalBytes areFieldsOf recordIn slotIn sessionPlace storePlace slotNamed areCounts isFilled questions slotsPending slotsWithout loadedCard cardPlace answers.refused answers.answered answerOf slotIs registerIs isAccepted emptyRows
 second-centre = (refl, refl, (refl, refl, (refl, refl, tt)))
 
 ends : Follows (rowsLeft (rowsLeft (emptyRows 2 2) centreA) centreB) deletions
-unfolding crcBit crcEight crcByte hexDigit sumDigits endsInSum isAlphanumeric isMark areAll isIdentifier isUnpadded isNumber isLeap daysIn isDate isTime isDateAndTime timestampOf dateTimeOf isTimestamp isDateTime numberOf isOctets typed valuesOf valueAt nextAt contentBytes endsInReturn isWhole isChecked textOf headerOf payloadOf ending framed requestBytes answered headers commandOf replyBytes statusOf fieldsOf bodyOf field isRecord isAlgorithm table nameOf valueOf valueOr entryBytes fits isCard isMet isIncoming defaultCard storedValue storedCard inRow isEntryOf isStored identityInForm parsesPublicKey publicKeyInForm parsesResponse responseInForm keyInForm padded trimmed isVacant attributeOf isKeyOf isUnder isRegisterSound isSameKey freeRegister filledRegister withoutSlot isZeroSlot isNamed isFilledSlot isSlotSound isSameSlot freeSlot filledSlot resetSlot isOwned areSound isIdentityRight isLoadRequestRight isWellFormed decDigits decimalBytes areFieldsOf recordIn slotIn sessionPlace storePlace slotNamed areCounts isFilled questions slotsPending slotsWithout loadedCard cardPlace answers.refused answers.answered answerOf slotIs registerIs isAccepted emptyRows
+unfolding crcBit crcEight crcByte hexDigit sumDigits endsInSum isAlphanumeric isMark areAll isIdentifier isUnpadded isNumber isLeap daysIn isDate isTime isDateAndTime timestampOf dateTimeOf isTimestamp isDateTime numberOf isOctets typed valuesOf valueAt nextAt contentBytes endsInReturn isWhole isChecked textOf headerOf payloadOf ending framed requestBytes answered headers commandOf replyBytes statusOf fieldsOf bodyOf field isRecord isAlgorithm table always nameOf valueOf valueOr entryBytes fits isCard isMet isIncoming defaultCard storedValue storedCard inRow isEntryOf isStored identityInForm parsesPublicKey publicKeyInForm parsesResponse responseInForm keyInForm padded trimmed isVacant attributeOf isKeyOf isUnder isRegisterSound isSameKey freeRegister filledRegister withoutSlot isZeroSlot isNamed isFilledSlot isSlotSound isSameSlot freeSlot filledSlot resetSlot isOwned areSound isIdentityRight isLoadRequestRight isWellFormed decDigits decimalBytes areFieldsOf recordIn slotIn sessionPlace storePlace slotNamed areCounts isFilled questions slotsPending slotsWithout loadedCard cardPlace answers.refused answers.answered answerOf slotIs registerIs isAccepted emptyRows
 ends = (refl, refl, (refl, refl, (refl, refl, (refl, refl, tt))))
 
 pub follows : Follows (emptyRows 2 2) stages

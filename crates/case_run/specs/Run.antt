@@ -1,5 +1,5 @@
--- A run of all seven commands over two centres, A and B: the key that A loaded is reloaded by B, stays where A is
--- deleted, and goes with its register.
+-- A run of all seven commands over two centres, A and B: the key that A loaded with a supply group name is reloaded by
+-- B without one, stays where A is deleted, and goes with its register.
 use Prim.Native.Nat.{ℕ}
 use Prim.Native.Char.{code}
 use mathlib.Core.List.{List, [], _∷_, _++_}
@@ -54,8 +54,8 @@ abbrev pub loadA : Input
 loadA =
     hand (
     text "SM?KLPA~PKEY.1|01|"
-    ++ text "ACT20130716T151031Z;BDT20130716T151031Z;DKG04;KEN255;KRN6;KTC2;SGC0000758825;"
-    ++ text "|02|0E6B~FAD1\r")
+    ++ text "ACT20130716T151031Z;BDT20130716T151031Z;DKG04;KEN255;KRN6;KTC2;SGC0000758825;SGNSURELOAD KMC TEST VUDK 1;"
+    ++ text "|02|67A1~76E8\r")
 
 abbrev pub finishA : Input
 finishA = hand (text "SM?KFPA~05DC\r")
@@ -109,11 +109,11 @@ group = text "0000758825"
 abbrev pub revision : List ℕ
 revision = text "6"
 
--- the card that A's load stores, and that of B's
+-- the card that A's load stores, with the supply group name that it brought, and that of B's, which brought none
 abbrev pub cardA : List ℕ
 cardA =
     text "ACT20130716T151031Z;BDT20130716T151031Z;CLMFFFFFFFF;CLU0;DKG04;IUT20380119T031407Z;KCV92E101;KEN255;"
-    ++ text "KRN6;KSLA;KTC2;SBMFFFF;SGC0000758825;ULM999999999;VND0;"
+    ++ text "KRN6;KSLA;KTC2;SBMFFFF;SGC0000758825;SGNSURELOAD KMC TEST VUDK 1;ULM999999999;VND0;"
 
 abbrev pub cardB : List ℕ
 cardB =
@@ -156,7 +156,7 @@ centreA =
     ∷ stage loadA (kl a group revision ⇒ refused) (lent (slotA Idle []) freeSlot keyA)
     ∷ []
 
--- centre B reloads it
+-- centre B reloads it, and no supply group name is left
 abbrev pub centreB : List Stage
 centreB =
     stage startB (kc b ⇒ done) (lent (slotA Idle []) (slotB Pending clock) keyA)

@@ -1,6 +1,7 @@
 // SM?KL, which loads a key (document 01, "Questions in order", 8 and on): its questions in turn, and the first no
 // decides.
 use byte_bounds::Bounds;
+use card_attributes::ROWS;
 use decide_parts::Decided;
 use decide_payloads::Texts;
 use decide_payloads::TwoTexts;
@@ -35,7 +36,7 @@ fn decide_store(
     register_count: usize,
     supplement: Supplement,
     card: &[u8],
-    values: [Bounds; 15],
+    values: [Bounds; ROWS],
 ) -> Decision
     requires { ⌜ («register_count» ≤ 32) × ((isIncoming (now card) ≡ true) × AreValues values (now card)) ⌝ }
     ensures { λ d. ⌜ ((R : List RegisterRow) → AreKeys (take «register_count» keys) R

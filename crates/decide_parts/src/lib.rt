@@ -1,6 +1,7 @@
 // A decision with what it was made of: where the parts of the request stand that its command goes on to use. They were
 // found by the questions, and are not looked for again.
 use byte_bounds::Bounds;
+use card_attributes::ROWS;
 use engine::Decision;
 use engine::Refusal;
 ghost use mathlib.Core.Path.{_≡_};
@@ -12,7 +13,7 @@ pub struct Parts {
     pub slot: Bounds,
     pub fingerprint: Bounds,
     pub card: Bounds,
-    pub values: [Bounds; 15],
+    pub values: [Bounds; ROWS],
 }
 
 // What is to be done, and with which parts of the payload.
@@ -31,7 +32,7 @@ pub fn start_parts(slot: Bounds, fingerprint: Bounds) -> Parts
         slot,
         fingerprint,
         card: nowhere,
-        values: [nowhere; 15],
+        values: [nowhere; ROWS],
     }
 }
 
@@ -43,7 +44,7 @@ pub fn open_parts(slot: Bounds) -> Parts
 }
 
 // The parts that SM?KL uses.
-pub fn load_parts(slot: Bounds, card: Bounds, values: [Bounds; 15]) -> Parts
+pub fn load_parts(slot: Bounds, card: Bounds, values: [Bounds; ROWS]) -> Parts
     ensures { λ p. ⌜ p .slot ≡ slot ⌝ }
     ensures card { λ p. ⌜ p .card ≡ card ⌝ }
     ensures values { λ p. ⌜ p .values ≡ values ⌝ }

@@ -25,8 +25,8 @@ use Rattle.row_index.proofs.KeyLaws.{Keyed, is-keyed}
 use Rattle.row_index.proofs.KeyReadings.{key-found, vacant-found, keys-counted, vacant-at}
 use Rattle.engine.specs.Questions.{storePlace, groupIn, revisionIn, isFilled}
 
--- card_key: there are fifteen attributes
-pub rows-long : (k : ℕ) → k < 15 → k < rows
+-- card_key: there are sixteen attributes
+pub rows-long : (k : ℕ) → k < 16 → k < rows
 rows-long k h = h
 
 -- an incoming card in form has an SGC and a KRN in form

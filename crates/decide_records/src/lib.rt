@@ -1,6 +1,7 @@
 // The tests behind questions 11 to 18 (document 01, "Questions in order"): each judges one record, row or supplement,
 // or makes one search of a table.
 use byte_bounds::Bounds;
+use card_attributes::ROWS;
 use record_types::LoadResponse;
 use record_types::PublicKey;
 use row_types::Place;
@@ -140,7 +141,7 @@ pub fn has_tag(source: &[u8], answer: LoadResponse, supplement: Supplement) -> b
 }
 
 // The key of an incoming card in form as a number: SGC, ten digits, and KRN, one, at the bounds of their values.
-fn card_key(card: &[u8], values: [Bounds; 15]) -> u64
+fn card_key(card: &[u8], values: [Bounds; ROWS]) -> u64
     requires { ⌜ (isIncoming (now card) ≡ true) × AreValues values (now card) ⌝ }
     ensures { λ n. ⌜ n ≡ decimal (groupIn (now (card .entry))) * 10 + decimal (revisionIn (now (card .entry))) ⌝ }
 {
@@ -154,7 +155,7 @@ pub fn store_place(
     keys: [u64; 32],
     register_count: usize,
     card: &[u8],
-    values: [Bounds; 15],
+    values: [Bounds; ROWS],
 ) -> Place
     requires { ⌜ («register_count» ≤ 32) × ((isIncoming (now card) ≡ true) × AreValues values (now card)) ⌝ }
     ensures { λ p. ⌜ ((R : List RegisterRow) → AreKeys (take «register_count» keys) R

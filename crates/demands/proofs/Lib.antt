@@ -1,3 +1,4 @@
 pub mod OneCall
 pub mod Lists
 pub mod Screens
+pub mod GroupNames

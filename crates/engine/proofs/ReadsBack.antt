@@ -157,20 +157,25 @@ module _ (x : Call) (c : Command) (vs : List Value) (y : Yes x c vs) where
         short = omega (arith, after-string s (string z ∷ []) 40 702 (name-short s i) (after-string z [] 700 0 load-short (omega arith)));
       }
 
--- SM?GA: the card of the register
-shown-card : (x : Call) (vs : List Value) → Yes x GA vs → CanBeSent (string (storedIn (registerNumbered (registerIn vs) (x .registers))) ∷ [])
+-- SM?GA: the row of the register is sound and filled,
+pub shown-row : (x : Call) (vs : List Value) → Yes x GA vs → (isRegisterSound (registerNumbered (registerIn vs) (x .registers)) ≡ true) × (isVacant (registerNumbered (registerIn vs) (x .registers)) ≡ false)
 unfolding areSound isFilled
-shown-card x vs y =
+shown-row x vs y =
     let rows = x .registers in
     let n = registerIn vs in
     let row = registerNumbered n rows in
     let o = and-second (leb n (length rows)) _ (and-second (leb 1 n) _ (y .filled)) in
     let every = and-first (everyRow isRegisterSound rows) _ (and-second (distinctRows isSameSlot (x .slots)) _ (and-second (everyRow isSlotSound (x .slots)) _ (y .sound))) in
-    let sound = every-at isRegisterSound freeRegister free-register-sound rows every (n - 1) in
-    let filled = no (isVacant row) (holds (not (isVacant row)) o) in
+    (every-at isRegisterSound freeRegister free-register-sound rows every (n - 1), no (isVacant row) (holds (not (isVacant row)) o))
+
+-- and its card is sent
+shown-card : (x : Call) (vs : List Value) → Yes x GA vs → CanBeSent (string (storedIn (registerNumbered (registerIn vs) (x .registers))) ∷ [])
+shown-card x vs y =
+    let row = registerNumbered (registerIn vs) (x .registers) in
+    let w = shown-row x vs y in
     record {
-      values = rw (stored-values row sound filled) refl;
-      short = omega (arith, after-string (storedIn row) [] 256 0 (stored-length row sound filled) (omega arith));
+      values = rw (stored-values row (w .0) (w .1)) refl;
+      short = omega (arith, after-string (storedIn row) [] 256 0 (stored-length row (w .0) (w .1)) (omega arith));
     }
 
 -- the counts are those of the rows

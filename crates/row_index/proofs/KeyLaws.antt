@@ -17,7 +17,7 @@ use Rattle.text_decimals.specs.Decimals.{decFrom, decimal, isUnpadded, isNumber
 use Rattle.text_decimals.proofs.NumberLaws.{number-short, number-digits, number-most}
 use Rattle.text_forms.specs.Forms.{inForm}
 use Rattle.text_forms.specs.declared.Form.the-variants.{Number, Digits}
-use Rattle.card_attributes.specs.Table.{SGC, KRN, table}
+use Rattle.card_attributes.specs.Table.{SGC, KRN, table, always}
 use Rattle.card_attributes.specs.declared.Presence.the-variants.{Required}
 use Rattle.card_stored.specs.Stored.{isStored}
 use Rattle.row_types.specs.Lists.{everyRow, distinctRows}
@@ -73,7 +73,7 @@ is-keyed g k p q =
     }
 
 pub filled-keyed : (r : RegisterRow) → isRegisterSound r ≡ true → isVacant r ≡ false → Keyed (attributeOf SGC r) (attributeOf KRN r)
-unfolding isRegisterSound attributeOf table
+unfolding isRegisterSound attributeOf table always
 filled-keyed r e o =
     let s : isStored (r .card) ≡ true = rw o at e in
     is-keyed _ _ (stored-in-form (r .card) s 12 (SGC, Required, Digits 10) _ refl) (stored-in-form (r .card) s 8 (KRN, Required, Number 1 1 9) _ refl)

@@ -20,7 +20,8 @@ use Rattle.text_forms.specs.Forms.{inForm}
 use Rattle.text_forms.specs.declared.Form.the-variants.{Hex, Name, Timestamp}
 use Rattle.text_forms.proofs.FormBounds.{in-form-text}
 use Rattle.card_laws.proofs.StoredText.{stored-text}
-use Rattle.row_types.specs.Lists.{everyRow, trimmed, rowsThat, numbersFrom}
+use Rattle.byte_strings.specs.Lists.{rowsThat}
+use Rattle.row_types.specs.Lists.{everyRow, trimmed, numbersFrom}
 use Rattle.row_types.specs.Slots.{isZeroSlot, hasState, kmcidOf, isFilledSlot, isSlotSound}
 use Rattle.row_types.specs.Registers.{isVacant, isUnder, isRegisterSound}
 use Rattle.row_types.specs.RowReplies.{storedIn, slotNames, nameFields, stateText, slotFields, registersUnder, numberFields, queryFields}

@@ -38,11 +38,6 @@ trimmed s = take (run (isNot 0) s) s
 abbrev pub mapped : {A : Type 0} → ℕ → (A → A) → List A → List A
 mapped n f l = map f (take n l) ++ drop n l
 
--- the rows that pass a test, in their sequence
-abbrev pub rowsThat : {A : Type 0} → (A → Bool) → List A → List A
-rowsThat f [] = []
-rowsThat f (x ∷ xs) = cond (f x) (x ∷ rowsThat f xs) (rowsThat f xs)
-
 -- the numbers of the rows that pass a test, the first row having the number i
 abbrev pub numbersFrom : {A : Type 0} → (A → Bool) → ℕ → List A → List ℕ
 numbersFrom f i [] = []

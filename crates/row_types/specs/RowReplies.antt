@@ -4,9 +4,10 @@ use Prim.Native.Nat.{ℕ}
 use mathlib.Core.Bool.{cond, not}
 use mathlib.Core.List.{List, [], _∷_, _++_, map}
 use Rattle.byte_strings.specs.Texts.{text}
+use Rattle.byte_strings.specs.Lists.{rowsThat}
 use Rattle.byte_orders.specs.Orders.{isBefore, sortedBy}
 use Rattle.field_values.specs.Values.{Value, number, string, octets}
-use Rattle.row_types.specs.Lists.{trimmed, rowsThat, numbersFrom}
+use Rattle.row_types.specs.Lists.{trimmed, numbersFrom}
 use Rattle.row_types.specs.Slots.{hasState, kmcidOf}
 use Rattle.row_types.specs.Registers.{isUnder}
 use Rattle.row_types.specs.declared.SlotRow.{SlotRow}

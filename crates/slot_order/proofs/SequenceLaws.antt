@@ -12,7 +12,8 @@ use borrow.Author.Tests.{lt-ltb, ltb-true}
 use Rattle.byte_strings.proofs.Flags.{and-first, and-second, and-both}
 use Rattle.byte_orders.specs.Orders.{isBefore, insertedBy, sortedBy}
 use Rattle.byte_orders.proofs.OrderLaws.{sort-perm, mapped-sorted}
-use Rattle.row_types.specs.Lists.{everyRow, trimmed, rowsThat, numbersFrom}
+use Rattle.byte_strings.specs.Lists.{rowsThat}
+use Rattle.row_types.specs.Lists.{everyRow, trimmed, numbersFrom}
 use Rattle.row_types.specs.Slots.{hasState, kmcidOf}
 use Rattle.row_types.specs.Index.{keptName}
 use Rattle.row_types.specs.RowReplies.{slotNames}

@@ -1,4 +1,4 @@
--- A value in form is made of bytes that an identifier may hold: so it holds no delimiter and is text; and it is at most so long.
+-- A value in form is made of bytes that a card's value may hold: so it holds no semicolon and is text; and it is at most so long.
 use mathlib.Core.Path.{_≡_, refl, sym, _∙_}
 use mathlib.Core.Bool.{Bool, true, false, _&&_, _||_}
 use mathlib.Core.List.{List, [], _∷_}
@@ -7,7 +7,7 @@ use Prim.Native.Nat.{ℕ, _≤_}
 use native.Mathlib.Omega.{arith}
 use lib.Dec.{leb, eqb}
 use lib.ListN.{length}
-use borrow.Author.Tests.{eqb-true, eq-eqb}
+use borrow.Author.Tests.{eqb-true, eq-eqb, leb-true}
 use Rattle.byte_strings.specs.Strings.{allOf, isNot, sameBytes}
 use Rattle.byte_strings.specs.Texts.{text}
 use Rattle.byte_strings.proofs.Flags.{nope, and-first, and-second, and-both, or-cases}
@@ -23,7 +23,7 @@ use Rattle.text_timestamps.specs.Timestamps.{isTimestamp}
 use Rattle.text_timestamps.proofs.Plain.{timestamp-length, timestamp-plain}
 use Rattle.text_forms.specs.Forms.{isAlgorithm, inForm}
 use Rattle.text_forms.specs.declared.Form.{Form}
-use Rattle.text_forms.specs.declared.Form.the-variants.{Timestamp, Algorithm, Number, Digits, Hex, HexSome, Name, Empty}
+use Rattle.text_forms.specs.declared.Form.the-variants.{Timestamp, Algorithm, Number, Digits, Hex, HexSome, Name, Empty, Label}
 
 -- classes within classes
 digit-identifier : (b : ℕ) → isOf Digit b ≡ true → isOf Identifier b ≡ true
@@ -97,7 +97,7 @@ unfolding isAlgorithm
 algorithm-is v e =
     ⊎-elim (λ p. inl (same-equal v (text "02") p)) (λ p. inr (same-equal v (text "04") p)) (or-cases (sameBytes v (text "02")) (sameBytes v (text "04")) e)
 
--- every byte of a value in form is one that an identifier may hold
+-- every byte of a value in a form other than a label is one that an identifier may hold
 module _ (v : List ℕ) where
   of-digits : areAll Digit v ≡ true → areAll Identifier v ≡ true
   unfolding areAll
@@ -119,47 +119,50 @@ module _ (v : List ℕ) where
       nothing [] p = refl
       nothing (b ∷ bs) p = absurd (omega arith)
 
-pub in-form-bytes : (f : Form) (v : List ℕ) → inForm f v ≡ true → areAll Identifier v ≡ true
-in-form-bytes Timestamp v e = stamp-bytes v e
-in-form-bytes Algorithm v e = of-algorithm v e
-in-form-bytes (Number digits low high) v e = of-digits v (number-digits digits low high v (and-second (leb digits 10) (isNumber digits low high v) e))
-in-form-bytes (Digits n) v e = of-digits v (and-second (eqb (length v) n) (areAll Digit v) e)
-in-form-bytes (Hex n) v e = of-hex v (and-second (eqb (length v) n) (areAll Hexadecimal v) e)
-in-form-bytes HexSome v e = of-hex v (and-second (leb 1 (length v)) (areAll Hexadecimal v) e)
-in-form-bytes Name v e = name-bytes v e
-in-form-bytes Empty v e = of-nothing v (eqb-true (length v) 0 e)
-
--- so it holds no delimiter that no identifier can hold
-pub in-form-plain : (d : ℕ) → isOf Identifier d ≡ false → (f : Form) (v : List ℕ) → inForm f v ≡ true → allOf (isNot d) v ≡ true
-in-form-plain d p f v e = class-plain Identifier d v p (in-form-bytes f v e)
-
--- as the delimiters of cards and records: ; : |
-pub semicolon : isOf Identifier 59 ≡ false
+-- so it may stand as a value in a card; a label is made of the bytes that may
+no-semicolon : isOf Identifier 59 ≡ false
 unfolding isAlphanumeric isMark
-semicolon = refl
+no-semicolon = refl
 
-pub colon : isOf Identifier 58 ≡ false
+no-bar : isOf Identifier 124 ≡ false
 unfolding isAlphanumeric isMark
-colon = refl
-
-pub bar : isOf Identifier 124 ≡ false
-unfolding isAlphanumeric isMark
-bar = refl
-
--- and it is text, and may stand as a value in a card
-pub in-form-text : (f : Form) (v : List ℕ) → inForm f v ≡ true → areAll Text v ≡ true
-unfolding areAll
-in-form-text f v e = all-wider (isOf Identifier) (isOf Text) identifier-text v (in-form-bytes f v e)
+no-bar = refl
 
 identifier-value : (b : ℕ) → isOf Identifier b ≡ true → isOf Value b ≡ true
 unfolding areAll
 identifier-value b e =
     let i : areAll Identifier (b ∷ []) ≡ true = rw e in
-    and-both (isNot 59 b) (isNot 124 b && within b 32 125) (no-other 59 semicolon b i) (and-both (isNot 124 b) (within b 32 125) (no-other 124 bar b i) (identifier-text b e))
+    and-both (isNot 59 b) (isNot 124 b && within b 32 125) (no-other 59 no-semicolon b i) (and-both (isNot 124 b) (within b 32 125) (no-other 124 no-bar b i) (identifier-text b e))
+
+as-value : (v : List ℕ) → areAll Identifier v ≡ true → areAll Value v ≡ true
+unfolding areAll
+as-value v e = all-wider (isOf Identifier) (isOf Value) identifier-value v e
 
 pub in-form-value : (f : Form) (v : List ℕ) → inForm f v ≡ true → areAll Value v ≡ true
+in-form-value Timestamp v e = as-value v (stamp-bytes v e)
+in-form-value Algorithm v e = as-value v (of-algorithm v e)
+in-form-value (Number digits low high) v e = as-value v (of-digits v (number-digits digits low high v (and-second (leb digits 10) (isNumber digits low high v) e)))
+in-form-value (Digits n) v e = as-value v (of-digits v (and-second (eqb (length v) n) (areAll Digit v) e))
+in-form-value (Hex n) v e = as-value v (of-hex v (and-second (eqb (length v) n) (areAll Hexadecimal v) e))
+in-form-value HexSome v e = as-value v (of-hex v (and-second (leb 1 (length v)) (areAll Hexadecimal v) e))
+in-form-value Name v e = as-value v (name-bytes v e)
+in-form-value Empty v e = as-value v (of-nothing v (eqb-true (length v) 0 e))
+in-form-value (Label n) v e = and-second (leb (length v) n) (areAll Value v) e
+
+-- it holds no byte that no value can hold, as the semicolon that ends an entry
+pub in-form-plain : (d : ℕ) → isOf Value d ≡ false → (f : Form) (v : List ℕ) → inForm f v ≡ true → allOf (isNot d) v ≡ true
+in-form-plain d p f v e = class-plain Value d v p (in-form-value f v e)
+
+pub semicolon : isOf Value 59 ≡ false
+semicolon = refl
+
+-- and it is text
+value-text : (b : ℕ) → isOf Value b ≡ true → isOf Text b ≡ true
+value-text b e = and-second (isNot 124 b) (within b 32 125) (and-second (isNot 59 b) (isNot 124 b && within b 32 125) e)
+
+pub in-form-text : (f : Form) (v : List ℕ) → inForm f v ≡ true → areAll Text v ≡ true
 unfolding areAll
-in-form-value f v e = all-wider (isOf Identifier) (isOf Value) identifier-value v (in-form-bytes f v e)
+in-form-text f v e = all-wider (isOf Value) (isOf Text) value-text v (in-form-value f v e)
 
 -- the longest value of a form, where there is one
 abbrev pub isBounded : Form → Bool
@@ -171,6 +174,7 @@ isBounded (Hex n) = true
 isBounded HexSome = false
 isBounded Name = true
 isBounded Empty = true
+isBounded (Label n) = true
 
 abbrev pub most : Form → ℕ
 most Timestamp = 16
@@ -181,6 +185,7 @@ most (Hex n) = n
 most HexSome = 0
 most Name = 40
 most Empty = 0
+most (Label n) = n
 
 pub in-form-short : (f : Form) (v : List ℕ) → isBounded f ≡ true → inForm f v ≡ true → length v ≤ most f
 in-form-short Timestamp v b e = let n = timestamp-length v e in omega arith
@@ -191,3 +196,4 @@ in-form-short (Hex n) v b e = let l = eqb-true (length v) n (and-first (eqb (len
 in-form-short HexSome v b e = nope (cc)
 in-form-short Name v b e = name-short v e
 in-form-short Empty v b e = let l = eqb-true (length v) 0 e in omega arith
+in-form-short (Label n) v b e = leb-true (length v) n (and-first (leb (length v) n) (areAll Value v) e)

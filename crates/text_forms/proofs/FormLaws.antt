@@ -11,14 +11,14 @@ use Rattle.byte_strings.specs.Texts.{text}
 use Rattle.byte_strings.proofs.StringLaws.{same-length}
 use Rattle.text_classes.specs.Classes.{areAll}
 use Rattle.text_classes.specs.Identifiers.{isIdentifier}
-use Rattle.text_classes.specs.declared.Class.the-variants.{Digit, Hexadecimal}
+use Rattle.text_classes.specs.declared.Class.the-variants.{Digit, Hexadecimal, Value}
 use Rattle.text_decimals.specs.Decimals.{isNumber}
 use Rattle.text_timestamps.specs.Timestamps.{timestampOf, isMoment, isTimestamp}
 use Rattle.text_timestamps.proofs.MomentLaws.{timestamp-moment}
 use Rattle.text_timestamps.specs.declared.Moment.{Moment}
 use Rattle.text_forms.specs.Forms.{isAlgorithm, inForm}
 use Rattle.text_forms.specs.declared.Form.{Form}
-use Rattle.text_forms.specs.declared.Form.the-variants.{Timestamp, Algorithm, Number, Digits, Hex, HexSome, Name, Empty}
+use Rattle.text_forms.specs.declared.Form.the-variants.{Timestamp, Algorithm, Number, Digits, Hex, HexSome, Name, Empty, Label}
 
 -- is_timestamp
 pub a-timestamp : (v : List ℕ) (m : Moment) → m ≡ timestampOf v → (r : Bool) → r ≡ isMoment m → r ≡ isTimestamp v
@@ -80,6 +80,9 @@ module _ (f : Form) (v : List ℕ) (r : Bool) where
   pub name : f ≡ Name → r ≡ isIdentifier v → r ≡ inForm f v
   name e p = rw (e, p)
 
+  pub label : (n : ℕ) → f ≡ Label n → length v ≤ n → r ≡ areAll Value v → r ≡ inForm f v
+  label n e l p = rw (e, le-leb (length v) n l, p)
+
 module _ (f : Form) (v : List ℕ) where
   pub many-digits : (digits low high : ℕ) → f ≡ Number digits low high → 10 < digits → false ≡ inForm f v
   many-digits digits low high e l = rw (e, lt-leb digits 10 l)
@@ -92,6 +95,9 @@ module _ (f : Form) (v : List ℕ) where
 
   pub hex-none : f ≡ HexSome → length v < 1 → false ≡ inForm f v
   hex-none e l = rw (e, lt-leb 1 (length v) l)
+
+  pub long-label : (n : ℕ) → f ≡ Label n → n < length v → false ≡ inForm f v
+  long-label n e l = rw (e, lt-leb (length v) n l)
 
   pub empty : f ≡ Empty → eqb (length v) 0 ≡ inForm f v
   empty e = rw e

@@ -13,7 +13,7 @@ use Rattle.text_decimals.specs.Decimals.{isNumber}
 use Rattle.text_timestamps.specs.Timestamps.{isTimestamp}
 use Rattle.text_forms.specs.declared.Form.{Form}
 use Rattle.text_forms.specs.declared.Form.the-variants.{Timestamp, Algorithm, Number, Digits}
-use Rattle.text_forms.specs.declared.Form.the-variants.{Hex, HexSome, Name, Empty}
+use Rattle.text_forms.specs.declared.Form.the-variants.{Hex, HexSome, Name, Empty, Label}
 
 -- document 01, Cards: DKG (02 or 04)
 unfoldable pub isAlgorithm : List ℕ → Bool
@@ -37,3 +37,5 @@ inForm HexSome v = all (leb 1 (length v) ∷ areAll class.Hexadecimal v ∷ [])
 inForm Name v = isIdentifier v
 -- document 01, Records: an empty field
 inForm Empty v = eqb (length v) 0
+-- document 02, N2: so many bytes at most, 20 to 7D hexadecimal but ; and |
+inForm (Label n) v = all (leb (length v) n ∷ areAll class.Value v ∷ [])

@@ -13,6 +13,7 @@ pub enum Form {
     HexSome,
     Name,
     Empty,
+    Label(usize), // bytes at most
 }
 
 fn is_timestamp(v: &[u8]) -> bool
@@ -72,5 +73,11 @@ pub fn in_form(form: Form, value: &[u8]) -> bool
         }
         Form::Name => text_classes::is_identifier(value),
         Form::Empty => value.len() == 0,
+        Form::Label(n) => {
+            if n < value.len() {
+                return false;
+            }
+            text_classes::are_all(Class::Value, value)
+        }
     }
 }

@@ -7,14 +7,14 @@ use Rattle.card_attributes.proofs.TableLaws.{row-arm, past}
 use Rattle.card_attributes.proofs.row.Statement.{statement}
 use Rattle.card_attributes.proofs.row.Tie as tie
 
--- of fifteen rows the last is left
-last : tie.Need-returns-15
+-- of sixteen rows the last is left
+last : tie.Need-returns-16
 unfolding table
 last c =
     let k = c .before .args .index in
     let r = c .match .rest in
-    let h : 14 ≤ k = past k 13 (past k 12 (past k 11 (past k 10 (past k 9 (past k 8 (past k 7 (past k 6 (past k 5 (past k 4 (past k 3 (past k 2 (past k 1 (past k 0 (omega arith) (r .0 .0 .0 .0 .0 .0 .0 .0 .0 .0 .0 .0 .0 .1)) (r .0 .0 .0 .0 .0 .0 .0 .0 .0 .0 .0 .0 .1)) (r .0 .0 .0 .0 .0 .0 .0 .0 .0 .0 .0 .1)) (r .0 .0 .0 .0 .0 .0 .0 .0 .0 .0 .1)) (r .0 .0 .0 .0 .0 .0 .0 .0 .0 .1)) (r .0 .0 .0 .0 .0 .0 .0 .0 .1)) (r .0 .0 .0 .0 .0 .0 .0 .1)) (r .0 .0 .0 .0 .0 .0 .1)) (r .0 .0 .0 .0 .0 .1)) (r .0 .0 .0 .0 .1)) (r .0 .0 .0 .1)) (r .0 .0 .1)) (r .0 .1)) (r .1) in
-    row-arm k 14 (omega (arith, h, c .before .pre)) _ refl
+    let h : 15 ≤ k = past k 14 (past k 13 (past k 12 (past k 11 (past k 10 (past k 9 (past k 8 (past k 7 (past k 6 (past k 5 (past k 4 (past k 3 (past k 2 (past k 1 (past k 0 (omega arith) (r .0 .0 .0 .0 .0 .0 .0 .0 .0 .0 .0 .0 .0 .0 .1)) (r .0 .0 .0 .0 .0 .0 .0 .0 .0 .0 .0 .0 .0 .1)) (r .0 .0 .0 .0 .0 .0 .0 .0 .0 .0 .0 .0 .1)) (r .0 .0 .0 .0 .0 .0 .0 .0 .0 .0 .0 .1)) (r .0 .0 .0 .0 .0 .0 .0 .0 .0 .0 .1)) (r .0 .0 .0 .0 .0 .0 .0 .0 .0 .1)) (r .0 .0 .0 .0 .0 .0 .0 .0 .1)) (r .0 .0 .0 .0 .0 .0 .0 .1)) (r .0 .0 .0 .0 .0 .0 .1)) (r .0 .0 .0 .0 .0 .1)) (r .0 .0 .0 .0 .1)) (r .0 .0 .0 .1)) (r .0 .0 .1)) (r .0 .1)) (r .1) in
+    row-arm k 15 (omega (arith, h, c .before .pre)) _ refl
 
 pub row-spec : {M : Type 1} → statement M
 unfolding table
@@ -35,4 +35,5 @@ row-spec =
     (λ c. row-arm _ 11 (c .match .keys12) _ refl)
     (λ c. row-arm _ 12 (c .match .keys13) _ refl)
     (λ c. row-arm _ 13 (c .match .keys14) _ refl)
+    (λ c. row-arm _ 14 (c .match .keys15) _ refl)
     last)

@@ -25,4 +25,5 @@ index-of-spec =
     (λ c. index-arm _ _ _ (c .match .keys13) refl)
     (λ c. index-arm _ _ _ (c .match .keys14) refl)
     (λ c. index-arm _ _ _ (c .match .keys15) refl)
+    (λ c. index-arm _ _ _ (c .match .keys16) refl)
     (λ c. search index-none))

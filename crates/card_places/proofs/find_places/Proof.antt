@@ -4,6 +4,10 @@ use borrow.Author.Needs.{needs}
 use Rattle.card_places.proofs.find_places.Statement.{statement}
 use Rattle.card_places.proofs.find_places.Tie as tie
 
+-- this one has a name, so that it is judged by itself, and not only where what is called is proved
+returns : tie.Need-returns
+returns c = (search is-stored, (search krn-place, (search ksl-place, (search ktc-place, search sgc-place))))
+
 pub find-places-spec : {M : Type 1} → statement M
 find-places-spec =
     tie.close
@@ -19,4 +23,4 @@ find-places-spec =
     (λ c κs. search needs)
     (λ c κs. search needs)
     (λ c κs. search needs)
-    (λ c. (search is-stored, (search krn-place, (search ksl-place, (search ktc-place, search sgc-place))))))
+    returns)

@@ -1,5 +1,5 @@
 -- `text_forms::in_form` meets its contract, a law a return.
-use Rattle.text_forms.proofs.FormLaws.{timestamp, algorithm, number, digits, hex, hex-some, name, many-digits, other-digits, other-hex, hex-none, empty}
+use Rattle.text_forms.proofs.FormLaws.{timestamp, algorithm, number, digits, hex, hex-some, name, many-digits, other-digits, other-hex, hex-none, empty, label, long-label}
 use borrow.Author.Needs.{needs}
 use Rattle.text_forms.proofs.in_form.Statement.{statement}
 use Rattle.text_forms.proofs.in_form.Tie as tie
@@ -27,6 +27,9 @@ in-form-spec =
     (λ c. search needs)
     (λ c κs. search needs)
     (λ c. search needs)
+    (λ c. search needs)
+    (λ c. search long-label)
+    (λ c κs. search needs)
     (λ c. search timestamp)
     (λ c. search algorithm)
     (λ c. search number)
@@ -34,4 +37,5 @@ in-form-spec =
     (λ c. search hex)
     (λ c. search hex-some)
     (λ c. search name)
-    (λ c. search empty))
+    (λ c. search empty)
+    (λ c. search label))
