@@ -1,7 +1,7 @@
 /* Diminurel: the key-management core of a prepayment vending module, STS 600-8-6 edition 1.6.
  *
  * Target: x86-64 Linux (System V ABI, baseline instructions). C99 or later, C++11 or later.
- * Stack:  about 29 KiB a call. Code: about 43 KiB, and 2.3 KiB of constants. docs/PERFORMANCE.md has the figures.
+ * Stack:  about 29 KiB a call. Code: about 45 KiB, and 2.3 KiB of constants. docs/PERFORMANCE.md has the figures.
  * Linked: memcpy and memset, nothing else. No heap, no globals, no input or output; both functions are reentrant.
  *
  * They answer every input: rows, supplement, request and buffer may hold any bytes, and slices may have any length, 0
@@ -27,9 +27,9 @@ extern "C" {
 
 /* The version of this header and of the library that goes with it (CHANGELOG.md). */
 #define DIMINUREL_VERSION_MAJOR 0
-#define DIMINUREL_VERSION_MINOR 2
+#define DIMINUREL_VERSION_MINOR 3
 #define DIMINUREL_VERSION_PATCH 0
-#define DIMINUREL_VERSION "0.2.0"
+#define DIMINUREL_VERSION "0.3.0"
 
 /* Rows of each kind: 1 to these, else refusal 1. */
 #define DIMINUREL_SLOTS_MAX 8
@@ -95,7 +95,8 @@ typedef struct {
     uint8_t tvp[DIMINUREL_TIMESTAMP_LENGTH]; /* zeros unless PENDING */
 } diminurel_slot;
 
-/* A register row. All zero is free. */
+/* A register row. All zero is free. A stored card has fifteen entries, or sixteen with the supply group name SGN, which
+ * is kept as it came: 0 to 24 bytes, and absent where it was absent. It takes at most 230 bytes. */
 typedef struct {
     uint8_t card[DIMINUREL_CARD_MAX]; /* a stored card, zeros after it */
 } diminurel_register;

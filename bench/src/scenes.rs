@@ -30,6 +30,8 @@ struct Content {
     moments: &'static [[&'static str; 3]],
     /// KEN, ULM and VND.
     numbers: &'static [[&'static str; 3]],
+    /// The entries of SGN, empty where a card has none.
+    group_names: &'static [&'static str],
 }
 
 const EXAMPLES: Content = Content {
@@ -39,6 +41,7 @@ const EXAMPLES: Content = Content {
     block: 1,
     moments: &[["20130716T151031Z", "20130716T151031Z", "20380119T031407Z"]],
     numbers: &[["255", "999999999", "0"]],
+    group_names: &[""],
 };
 
 const BLOCKS: Content = Content { title: ", registers in blocks", block: 4, ..EXAMPLES };
@@ -84,6 +87,18 @@ const MIXED: Content = Content {
     descending: false,
     moments: LATE_DAYS.moments,
     numbers: OTHER_NUMBERS.numbers,
+    group_names: &[""],
+};
+
+/// The longest that a card may have (document 02, N2).
+const GROUP_NAMES: Content =
+    Content { title: ", SGN of 24 bytes", group_names: &["SGNSURELOAD KMC TEST VUDK 1;"], ..EXAMPLES };
+
+/// Cards with it and without beside each other.
+const SOME_GROUP_NAMES: Content = Content {
+    title: ", SGN in some",
+    group_names: &["", "SGNACME;", "SGN;", "", "SGNSURELOAD KMC TEST VUDK 1;"],
+    ..EXAMPLES
 };
 
 /// One friendly content would hide what a quick way costs elsewhere.
@@ -166,8 +181,9 @@ impl Content {
         let [act, bdt, iut] = self.moments[place % self.moments.len()];
         let [ken, ulm, vnd] = self.numbers[place % self.numbers.len()];
         let (group, revision, slot) = (group(place), place % 9 + 1, String::from_utf8_lossy(slot));
+        let name = self.group_names[place % self.group_names.len()];
         let start = format!("ACT{act};BDT{bdt};CLMFFFFFFFF;CLU0;DKG04;IUT{iut};KCV92E101;KEN{ken};KRN{revision};");
-        let end = format!("KSL{slot};KTC2;SBMFFFF;SGC{group};ULM{ulm};VND{vnd};");
+        let end = format!("KSL{slot};KTC2;SBMFFFF;SGC{group};{name}ULM{ulm};VND{vnd};");
         (start + &end).into_bytes()
     }
 
@@ -176,7 +192,8 @@ impl Content {
         let [act, bdt, _] = self.moments[place % self.moments.len()];
         let [ken, ..] = self.numbers[place % self.numbers.len()];
         let (group, revision) = (group(place), place % 9 + 1);
-        let card = format!("ACT{act};BDT{bdt};DKG04;KEN{ken};KRN{revision};KTC2;SGC{group};");
+        let name = self.group_names[place % self.group_names.len()];
+        let card = format!("ACT{act};BDT{bdt};DKG04;KEN{ken};KRN{revision};KTC2;SGC{group};{name}");
         requests::load(slot, NONCE, card.as_bytes(), ENCRYPTED)
     }
 }
@@ -278,8 +295,8 @@ impl Filling {
     }
 }
 
-/// Each command, a mixed history and `usable`, over each filling; then four commands over each further content, and the
-/// list that has the most to put in sequence.
+/// Each command, a mixed history and `usable`, over each filling; then four commands over each further content, the
+/// list that has the most to put in sequence, and cards with SGN.
 pub fn all() -> Vec<Scene> {
     let mut scenes: Vec<Scene> = FILLINGS.into_iter().flat_map(Filling::scenes).collect();
     for content in FURTHER {
@@ -287,6 +304,10 @@ pub fn all() -> Vec<Scene> {
         scenes.extend([Command::RS, Command::KC, Command::KR, Command::KL].map(|command| full.accepted(command)));
     }
     scenes.push(Filling { content: DESCENDING, ..FULL }.accepted(Command::GL));
+    for content in [GROUP_NAMES, SOME_GROUP_NAMES] {
+        let full = Filling { content, ..FULL };
+        scenes.extend([Command::RS, Command::KL, Command::GA].map(|command| full.accepted(command)));
+    }
     scenes
 }
 

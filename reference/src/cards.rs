@@ -1,4 +1,4 @@
-//! Attribute cards (document 01, "Cards"; 003 clause 7.5.1; 001 Annex F).
+//! Attribute cards (document 01, "Cards"; document 02, N2; 003 clause 7.5.1; 001 Annex F).
 
 use crate::text;
 
@@ -12,6 +12,8 @@ enum Form {
     Generation,
     TenDigits,
     Ident,
+    /// So many bytes or fewer. Which bytes a value may have is asked of every entry.
+    Text(usize),
 }
 
 impl Form {
@@ -23,6 +25,7 @@ impl Form {
             Form::Generation => value == b"02" || value == b"04",
             Form::TenDigits => text::is_digits_of(value, 10),
             Form::Ident => text::is_ident(value),
+            Form::Text(longest) => value.len() <= longest,
         }
     }
 }
@@ -33,10 +36,12 @@ enum Presence {
     Optional,
     /// Belongs to the engine: an incoming value is dropped.
     Engine,
+    /// Stored just where the incoming card has it, and the one known name whose value may be empty (document 02, N2).
+    Kept,
 }
 
-/// The fifteen names, ascending. The forms of the engine's own values are those of stored cards.
-const KNOWN: [(&[u8; 3], Form, Presence); 15] = [
+/// The sixteen names, ascending. The forms of the engine's own values are those of stored cards.
+const KNOWN: [(&[u8; 3], Form, Presence); 16] = [
     (b"ACT", Form::Timestamp, Presence::Required),
     (b"BDT", Form::Timestamp, Presence::Required),
     (b"CLM", Form::Hex(8), Presence::Optional),
@@ -50,6 +55,7 @@ const KNOWN: [(&[u8; 3], Form, Presence); 15] = [
     (b"KTC", Form::Decimal(0, 3), Presence::Required),
     (b"SBM", Form::Hex(4), Presence::Optional),
     (b"SGC", Form::TenDigits, Presence::Required),
+    (b"SGN", Form::Text(24), Presence::Kept),
     (b"ULM", Form::Decimal(0, 999_999_999), Presence::Optional),
     (b"VND", Form::Decimal(0, 999_999_999), Presence::Engine),
 ];
@@ -63,7 +69,7 @@ pub const SPACE: usize = 256;
 /// A card whose form has been judged; the values stand in the sequence of `KNOWN`.
 #[derive(Clone, Copy)]
 pub struct Card<'a> {
-    values: [Option<&'a [u8]>; 15],
+    values: [Option<&'a [u8]>; KNOWN.len()],
 }
 
 impl<'a> Card<'a> {
@@ -77,6 +83,11 @@ impl<'a> Card<'a> {
         self.value(b"KSL")
     }
 
+    /// SGN, where the card has it.
+    pub fn group_name(&self) -> Option<&'a [u8]> {
+        place(b"SGN").and_then(|place| self.values[place])
+    }
+
     fn value(&self, name: &[u8; 3]) -> &'a [u8] {
         place(name).and_then(|place| self.values[place]).unwrap_or_default()
     }
@@ -84,7 +95,7 @@ impl<'a> Card<'a> {
 
 /// The card of a KEY.1 record, or nothing when it is out of form (question 10).
 pub fn incoming(text: &[u8]) -> Option<Card<'_>> {
-    let mut values = [None; 15];
+    let mut values = [None; KNOWN.len()];
     let mut previous: Option<&[u8]> = None;
     for entry in entries(text)? {
         let (name, value) = entry?;
@@ -95,7 +106,7 @@ pub fn incoming(text: &[u8]) -> Option<Card<'_>> {
         previous = Some(name);
         let Some(place) = place(name) else { continue };
         let (_, form, presence) = KNOWN[place];
-        if value.is_empty() {
+        if value.is_empty() && presence != Presence::Kept {
             return None;
         }
         if presence == Presence::Engine {
@@ -106,29 +117,31 @@ pub fn incoming(text: &[u8]) -> Option<Card<'_>> {
         }
         values[place] = Some(value);
     }
-    let complete = (0..15).all(|place| KNOWN[place].2 != Presence::Required || values[place].is_some());
-    complete.then_some(Card { values })
+    let mut names = KNOWN.iter().zip(values);
+    names.all(|((.., presence), value)| *presence != Presence::Required || value.is_some()).then_some(Card { values })
 }
 
-/// A card as stored: exactly the fifteen names ascending, each value in form,
-/// then zeros to the end of the space (question 3).
+/// A card as stored: the fifteen names that each one has, and SGN or not, ascending, each value in form, then zeros to
+/// the end of the space (question 3).
 pub fn stored(space: &[u8; SPACE]) -> Option<Card<'_>> {
     let text = written(space);
     if space[text.len()..].iter().any(|&byte| byte != 0) {
         return None;
     }
-    let mut values = [None; 15];
-    let mut count = 0;
+    let mut values = [None; KNOWN.len()];
+    let mut next = 0;
     for entry in entries(text)? {
         let (name, value) = entry?;
-        let (expected, form, _) = KNOWN.get(count)?;
-        if name != *expected || !form.holds(value) {
+        // One of the names that may still come.
+        let place = next + KNOWN[next..].iter().position(|(known, ..)| *known == name)?;
+        if !KNOWN[place].1.holds(value) {
             return None;
         }
-        values[count] = Some(value);
-        count += 1;
+        values[place] = Some(value);
+        next = place + 1;
     }
-    (count == 15).then_some(Card { values })
+    let mut names = KNOWN.iter().zip(values);
+    names.all(|((.., presence), value)| *presence == Presence::Kept || value.is_some()).then_some(Card { values })
 }
 
 /// The text of a stored card: all before the first zero.
@@ -137,7 +150,7 @@ pub fn written(space: &[u8; SPACE]) -> &[u8] {
     &space[..end]
 }
 
-/// What is stored for an incoming card: all fifteen names ascending, then zeros.
+/// What is stored for an incoming card: the names ascending, SGN just where the card has it, then zeros.
 pub fn store(card: &Card, slot: &[u8], check: &[u8]) -> [u8; SPACE] {
     let mut text = Vec::with_capacity(SPACE);
     for (place, (name, _, presence)) in KNOWN.iter().enumerate() {
@@ -148,13 +161,17 @@ pub fn store(card: &Card, slot: &[u8], check: &[u8]) -> [u8; SPACE] {
                 // CLU and VND start at 0.
                 _ => b"0",
             },
+            Presence::Kept => match card.values[place] {
+                Some(value) => value,
+                None => continue,
+            },
             _ => card.values[place].unwrap_or_else(|| default(name)),
         };
         text.extend_from_slice(*name);
         text.extend_from_slice(value);
         text.push(b';');
     }
-    // At most 194 bytes, so the space suffices.
+    // At most 222 bytes, so the space suffices.
     let mut space = [0; SPACE];
     space[..text.len()].copy_from_slice(&text);
     space
@@ -248,16 +265,107 @@ mod tests {
         assert!(!passes("") && !passes(";"));
     }
 
+    /// As printed, CLM is in small letters. With capitals they pass, and SGN is kept, also the one of 24 bytes.
     #[test]
-    fn small_letters_of_003_appendix_a() {
-        assert!(!passes("ACT20160425T114321Z;BDT19930101T000000Z;CLM44fa0000;CLU0;DKG02;EXP20170506T215959Z;IUT20160903T102658Z;KCV17D819;KEN255;KRN1;KTC2;SBMFFFF;SGC0000112233;SGNSURELOAD KMC TEST VUDK 1;ULM1000;"));
-        assert!(passes("ACT20160425T114321Z;BDT19930101T000000Z;CLM44FA0000;CLU0;DKG02;EXP20170506T215959Z;IUT20160903T102658Z;KCV17D819;KEN255;KRN1;KTC2;SBMFFFF;SGC0000112233;SGNSURELOAD KMC TEST VUDK 1;ULM1000;"));
+    fn cards_of_003_appendix_a() {
+        let rest = "ACT20160425T114321Z;BDT19930101T000000Z;CLM44fa0000;CLU0;DKG02;EXP20170506T215959Z;IUT20160903T102658Z;KCV17D819;KEN255;KRN1;KTC2;SBMFFFF;SGC0000112233;";
+        for (name, length) in [("SURELOAD KMC TEST VUDK 1", 24), ("ACME", 4)] {
+            assert_eq!(name.len(), length);
+            let printed = format!("{rest}SGN{name};ULM1000;");
+            assert!(!passes(&printed));
+            let capitals = printed.replace("44fa", "44FA");
+            let card = incoming(capitals.as_bytes()).unwrap();
+            assert_eq!(card.group_name(), Some(name.as_bytes()));
+            let due = format!("ACT20160425T114321Z;BDT19930101T000000Z;CLM44FA0000;CLU0;DKG02;IUT20160903T102658Z;KCV17D819;KEN255;KRN1;KSLK0001;KTC2;SBMFFFF;SGC0000112233;SGN{name};ULM1000;VND0;");
+            let space = store(&card, b"K0001", b"17D819");
+            assert_eq!(written(&space), due.as_bytes());
+            assert_eq!(stored(&space).unwrap().group_name(), Some(name.as_bytes()));
+        }
+    }
+
+    /// An incoming card with such a text after SGC.
+    fn after_sgc(text: &str) -> String {
+        format!("{GOOD}{text}")
     }
 
     #[test]
-    fn longest_stored_card() {
-        let card = incoming(GOOD.as_bytes()).unwrap();
-        let space = store(&card, &[b'k'; 40], b"000000");
-        assert_eq!(written(&space).len(), 194);
+    fn group_name_of_an_incoming_card() {
+        let name = |text: &str| incoming(text.as_bytes()).map(|card| card.group_name().map(<[u8]>::to_vec));
+        assert_eq!(name(GOOD), Some(None));
+        for length in 0..=26 {
+            let value = "x".repeat(length);
+            let due = (length <= 24).then(|| Some(value.clone().into_bytes()));
+            assert_eq!(name(&after_sgc(&format!("SGN{value};"))), due);
+            assert_eq!(name(&after_sgc(&format!("SGN{value};ULM5;"))), due);
+        }
+        // Each byte that a value may have; a semicolon ends the entry, and what follows is the next.
+        for byte in 0..=255 {
+            let card = [GOOD.as_bytes(), b"SGNa", &[byte], b"b;"].concat();
+            let right = (0x20..=0x7D).contains(&byte) && byte != b';' && byte != b'|';
+            assert_eq!(incoming(&card).is_some(), right, "{byte:02X}");
+        }
+        assert_eq!(name(&after_sgc("SGNTHE;TOWN;")), Some(Some(b"THE".to_vec())));
+        // Out of place, twice, without its semicolon; names near it are unknown ones.
+        for wrong in ["SGNa;SGNa;", "SGNa;SGNb;", "SGN;SGN;", "ULM5;SGNa;", "VND0;SGNa;", "SGNa", "SGn;", "SG;"] {
+            assert_eq!(name(&after_sgc(wrong)), None, "{wrong}");
+        }
+        for place in ["ACT", "BDT", "DKG", "KEN", "KRN", "KTC", "SGC"] {
+            assert_eq!(name(&GOOD.replace(place, &format!("SGNa;{place}"))), None, "{place}");
+        }
+        assert_eq!(name(&after_sgc("SGMx;SGNa;SGO;")), Some(Some(b"a".to_vec())));
+        assert_eq!(name(&after_sgc(&format!("SGM{};SGO;", "x".repeat(25)))), Some(None));
+        assert_eq!(name(&after_sgc("SGOx;SGNa;")), None);
+    }
+
+    #[test]
+    fn group_name_of_a_stored_card() {
+        let as_stored = |text: &str| {
+            let mut space = [0; SPACE];
+            space[..text.len()].copy_from_slice(text.as_bytes());
+            stored(&space).map(|card| card.group_name().map(<[u8]>::to_vec))
+        };
+        let fifteen = store(&incoming(GOOD.as_bytes()).unwrap(), b"KMC1", b"92E101");
+        let fifteen = String::from_utf8_lossy(written(&fifteen)).into_owned();
+        assert_eq!(as_stored(&fifteen), Some(None));
+        for length in 0..=26 {
+            let value = "x".repeat(length);
+            let sixteen = fifteen.replace("ULM", &format!("SGN{value};ULM"));
+            assert_eq!(as_stored(&sixteen), (length <= 24).then(|| Some(value.clone().into_bytes())));
+            // What is stored for an incoming card is it, absent where SGN is absent, empty where it is empty.
+            if length <= 24 {
+                let card = after_sgc(&format!("SGN{value};"));
+                assert_eq!(
+                    written(&store(&incoming(card.as_bytes()).unwrap(), b"KMC1", b"92E101")),
+                    sixteen.as_bytes()
+                );
+            }
+        }
+        for name in fifteen.split_terminator(';').map(|entry| &entry[..3]).filter(|name| *name != "ULM") {
+            assert_eq!(as_stored(&fifteen.replace(name, &format!("SGNa;{name}"))), None, "before {name}");
+        }
+        assert_eq!(as_stored(&format!("{fifteen}SGNa;")), None);
+        assert_eq!(as_stored(&fifteen.replace("ULM", "SGNa;SGNa;ULM")), None);
+        assert_eq!(as_stored(&fifteen.replace("ULM", "SGOa;ULM")), None);
+        // In place of another name, so that fifteen entries are there.
+        assert_eq!(as_stored(&fifteen.replace("ULM999999999", "SGNa")), None);
+        assert_eq!(as_stored(&fifteen.replace("SGC0000758825", "SGNa")), None);
+        for wrong in ["\u{1f}", "~", "|", ";"] {
+            assert_eq!(as_stored(&fifteen.replace("ULM", &format!("SGNa{wrong}b;ULM"))), None, "{wrong}");
+        }
+    }
+
+    #[test]
+    fn longest_stored_cards() {
+        let name = format!("SGN{};", "n".repeat(24));
+        for (given, loaded, vended) in [("", 194, 202), (&name, 222, 230)] {
+            let card = after_sgc(given);
+            let space = store(&incoming(card.as_bytes()).unwrap(), &[b'k'; 40], b"000000");
+            assert_eq!(written(&space).len(), loaded);
+            let longest = String::from_utf8_lossy(written(&space)).replace("VND0", "VND999999999");
+            assert_eq!(longest.len(), vended);
+            let mut space = [0; SPACE];
+            space[..vended].copy_from_slice(longest.as_bytes());
+            assert!(stored(&space).is_some());
+        }
     }
 }

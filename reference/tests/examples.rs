@@ -197,7 +197,7 @@ fn reset() {
     assert_eq!(ask(&mut tables, &plain(), &frame(b"GL?RS", b"N1~")).1, "GL!RSEEPKM.08~");
 }
 
-/// 003 Appendix A, the response and its keys; their CLM is in small letters.
+/// 003 Appendix A, the response and its keys; their CLM is in small letters. With capitals they are stored, SGN too.
 #[test]
 fn key_load_file() {
     let module = b"SMID.1:Prism:94000507:20160506T095338Z:F184871DC4F23CB0:1F8C";
@@ -223,7 +223,10 @@ fn key_load_file() {
         let parts: Vec<&str> = key.split('|').collect();
         let capitals = parts[2].replace("44fa", "44FA").replace("461c", "461C");
         let request = requests::load(b"K0001", parts[1].as_bytes(), capitals.as_bytes(), parts[3].as_bytes());
-        assert_eq!(ask(&mut tables, &supplement, &request).0.outcome, 0);
+        let (answer, reply) = ask(&mut tables, &supplement, &request);
+        assert_eq!(answer.outcome, 0);
+        let (_, rest) = capitals.split_once("SBM").unwrap();
+        assert!(rest.contains(";SGN") && reply.ends_with(&format!("SBM{rest}VND0;~")), "{reply}");
     }
     assert!(tables.registers[..4].iter().all(|register| !register.is_free()));
 }

@@ -4,12 +4,13 @@
 
 use reference::console::{self, row_lines};
 use reference::demand3::{self, Word};
+use reference::fields::Reader;
 use reference::harness::tables::Tables;
 use reference::harness::{
     history, parts, requests, run, scenes, try_fixed, try_fuzz, try_run, Bench, Engine, Failure, Reference,
 };
 use reference::rows::{IDLE, LOADING, PENDING};
-use reference::{cards, Command, RegisterRow, SlotRow, Supplement};
+use reference::{cards, records, Command, RegisterRow, SlotRow, Supplement};
 
 type Response = (u8, u8, usize);
 
@@ -245,6 +246,150 @@ fn gl_leaves_the_last_row_last(call: &mut Call) -> Response {
     })
 }
 
+/// The entry of SGN in a card, empty where there is none.
+fn group_entry(card: &[u8]) -> &[u8] {
+    card.split_inclusive(|&byte| byte == b';').find(|entry| entry.starts_with(b"SGN")).unwrap_or_default()
+}
+
+/// The card with this entry of SGN, or none, before the entry of a name.
+fn named(card: &[u8], entry: &[u8], name: &str) -> Vec<u8> {
+    let others = card.split_inclusive(|&byte| byte == b';').filter(|entry| !entry.starts_with(b"SGN"));
+    others
+        .flat_map(|other| if other.starts_with(name.as_bytes()) { [entry, other].concat() } else { other.to_vec() })
+        .collect()
+}
+
+/// Stores and answers another card at each accepted load: made of the card that the register had, and of the right one.
+fn stored_otherwise(call: &mut Call, other: impl Fn(&[u8], &[u8]) -> Vec<u8>) -> Response {
+    let before = call.registers.to_vec();
+    let answer = remade(call, Command::KL, |_, payload| {
+        let mut fields = Reader::new(payload);
+        let (register, card) = (fields.number().unwrap(), fields.string().unwrap());
+        let old = cards::written(&before[register as usize - 1].card);
+        [format!("N{register}~").into_bytes(), requests::string(&other(old, card))].concat()
+    });
+    if let Word::Load { n, card, .. } = call.word(answer.2) {
+        let row = &mut call.registers[n as usize - 1];
+        *row = RegisterRow::FREE;
+        row.card[..card.len()].copy_from_slice(&card);
+    }
+    answer
+}
+
+fn an_absent_sgn_is_stored_as_empty(call: &mut Call) -> Response {
+    stored_otherwise(call, |_, card| match group_entry(card) {
+        b"" => named(card, b"SGN;", "ULM"),
+        _ => card.to_vec(),
+    })
+}
+
+fn an_empty_sgn_is_stored_as_absent(call: &mut Call) -> Response {
+    stored_otherwise(call, |_, card| match group_entry(card) {
+        b"SGN;" => named(card, b"", "ULM"),
+        _ => card.to_vec(),
+    })
+}
+
+fn sgn_is_dropped(call: &mut Call) -> Response {
+    stored_otherwise(call, |_, card| named(card, b"", "ULM"))
+}
+
+fn sgn_is_stored_before_sgc(call: &mut Call) -> Response {
+    stored_otherwise(call, |_, card| named(card, group_entry(card), "SGC"))
+}
+
+fn a_reload_keeps_the_old_sgn(call: &mut Call) -> Response {
+    stored_otherwise(call, |old, card| match group_entry(card) {
+        b"" => named(card, group_entry(old), "ULM"),
+        _ => card.to_vec(),
+    })
+}
+
+fn ga_does_not_show_sgn(call: &mut Call) -> Response {
+    remade(call, Command::GA, |_, payload| named(payload, b"", "ULM"))
+}
+
+/// An SM?KL that is right up to its card, and whose SGN has a value that another one takes the place of.
+fn asked_otherwise(request: &[u8], other: impl Fn(&[u8]) -> Option<Vec<u8>>) -> Option<Vec<u8>> {
+    let mut fields = Reader::new(request.get(5..request.len().checked_sub(5)?)?);
+    let slot = fields.string()?;
+    let [nonce, card, encrypted] = records::parse(fields.string()?, b"KEY.1", b'|')?;
+    if requests::load(slot, nonce, card, encrypted) != request {
+        return None;
+    }
+    let name = other(group_entry(card).strip_prefix(b"SGN")?.strip_suffix(b";")?)?;
+    let entry = [b"SGN", &name[..], b";"].concat();
+    let entries = card.split_inclusive(|&byte| byte == b';');
+    let card: Vec<&[u8]> = entries.map(|each| if each.starts_with(b"SGN") { &entry } else { each }).collect();
+    Some(requests::load(slot, nonce, &card.concat(), encrypted))
+}
+
+/// Answers as if SGN had another value.
+fn read_otherwise(call: &mut Call, other: fn(&[u8]) -> Option<Vec<u8>>) -> Response {
+    let Some(request) = asked_otherwise(call.request, other) else { return call.right() };
+    let Call { slots, registers, counts, supplement, response, .. } = call;
+    Call { slots, registers, counts: *counts, supplement, request: &request, response }.right()
+}
+
+fn an_sgn_of_24_bytes_is_refused(call: &mut Call) -> Response {
+    read_otherwise(call, |name| (name.len() == 24).then(|| vec![b'x'; 25]))
+}
+
+fn an_empty_sgn_is_refused(call: &mut Call) -> Response {
+    read_otherwise(call, |name| name.is_empty().then(|| vec![b'x'; 25]))
+}
+
+fn a_longer_sgn_is_cut(call: &mut Call) -> Response {
+    read_otherwise(call, |name| name.get(..24).filter(|_| name.len() > 24).map(<[u8]>::to_vec))
+}
+
+fn an_sgn_of_25_bytes_passes(call: &mut Call) -> Response {
+    let whole = requests::card_in(call.request).map(group_entry).unwrap_or_default();
+    let cut = |name: &[u8]| (name.len() == 25).then(|| name[..24].to_vec());
+    let Some(request) = asked_otherwise(call.request, cut) else { return call.right() };
+    let Call { slots, registers, counts, supplement, response, .. } = call;
+    let mut shorter = Call { slots, registers, counts: *counts, supplement, request: &request, response };
+    stored_otherwise(&mut shorter, |_, card| named(card, whole, "ULM"))
+}
+
+/// Answers as if some registers held other cards; what the call does not change stays.
+fn over_other_cards(call: &mut Call, other: fn(&[u8]) -> Option<Vec<u8>>) -> Response {
+    let before = call.registers.to_vec();
+    for row in call.registers.iter_mut() {
+        if let Some(card) = other(cards::written(&row.card)) {
+            *row = RegisterRow::FREE;
+            row.card[..card.len()].copy_from_slice(&card);
+        }
+    }
+    let changed = call.registers.to_vec();
+    let answer = call.right();
+    for ((row, changed), before) in call.registers.iter_mut().zip(changed).zip(before) {
+        if *row == changed {
+            *row = before;
+        }
+    }
+    answer
+}
+
+fn a_row_with_sgn_is_unsound(call: &mut Call) -> Response {
+    over_other_cards(call, |card| (!group_entry(card).is_empty()).then(|| b"unsound".to_vec()))
+}
+
+fn a_row_with_an_sgn_of_25_bytes_is_sound(call: &mut Call) -> Response {
+    over_other_cards(call, |card| {
+        let entry = group_entry(card);
+        (entry.len() == 29).then(|| named(card, &[&entry[..27], b";"].concat(), "ULM"))
+    })
+}
+
+fn a_row_with_sgn_before_sgc_is_sound(call: &mut Call) -> Response {
+    over_other_cards(call, |card| {
+        let entry = group_entry(card);
+        let before = !entry.is_empty() && named(card, entry, "SGC") == card;
+        before.then(|| named(card, entry, "ULM"))
+    })
+}
+
 /// The current fingerprint and the new one change places.
 fn kq_tells_the_new_fingerprint_as_current(call: &mut Call) -> Response {
     rewritten(call, Command::KQ, |fields| {
@@ -308,7 +453,19 @@ fn the_comparison_finds_the_rest() {
     }
 }
 
-/// SM?GL's list is fixed byte for byte (document 02, N1). Fixed parts and random calls each find every other one.
+/// Demand 3 lets the engine through; fixed parts and random calls each find it.
+fn is_found_by_both(name: &str, engine: Handle) {
+    assert!(demand_3(engine).is_ok(), "{name}");
+    for (calls, run) in
+        [("fixed", try_fixed(&mut Wrong(engine, false))), ("random", try_fuzz(&mut Wrong(engine, false), 8000, 7))]
+    {
+        let difference = run.expect_err(&format!("{name}, {calls}")).text;
+        println!("{name}, {calls}: {}", difference.lines().next().unwrap_or_default());
+        assert!(difference.starts_with("difference in call"), "{name}, {calls}: {difference}");
+    }
+}
+
+/// SM?GL's list is fixed byte for byte (document 02, N1).
 #[test]
 fn another_list_is_a_difference() {
     let right = |call: &mut Call| relisted(call, |names| names.sort());
@@ -324,14 +481,31 @@ fn another_list_is_a_difference() {
         ("one left out", gl_leaves_one_out),
         ("one twice", gl_lists_a_slot_twice),
     ] {
-        assert!(demand_3(engine).is_ok(), "{name}");
-        for (calls, run) in
-            [("fixed", try_fixed(&mut Wrong(engine, false))), ("random", try_fuzz(&mut Wrong(engine, false), 4000, 7))]
-        {
-            let difference = run.expect_err(&format!("{name}, {calls}")).text;
-            println!("{name}, {calls}: {}", difference.lines().next().unwrap_or_default());
-            assert!(difference.starts_with("difference in call"), "{name}, {calls}: {difference}");
-        }
+        is_found_by_both(name, engine);
+    }
+}
+
+/// SGN is kept as it came, or not at all (document 02, N2), and both kinds of card are as stored.
+#[test]
+fn another_group_name_is_a_difference() {
+    let right = |call: &mut Call| stored_otherwise(call, |_, card| named(card, group_entry(card), "ULM"));
+    try_run(&mut Wrong(right, false), 2000, 7).unwrap();
+    for (name, engine) in [
+        ("25 bytes pass", an_sgn_of_25_bytes_passes as Handle),
+        ("24 bytes are refused", an_sgn_of_24_bytes_is_refused),
+        ("a longer one is cut", a_longer_sgn_is_cut),
+        ("an empty one is refused", an_empty_sgn_is_refused),
+        ("an absent one is stored as empty", an_absent_sgn_is_stored_as_empty),
+        ("an empty one is stored as absent", an_empty_sgn_is_stored_as_absent),
+        ("dropped", sgn_is_dropped),
+        ("not shown by SM?GA", ga_does_not_show_sgn),
+        ("stored before SGC", sgn_is_stored_before_sgc),
+        ("the old one kept by a reload", a_reload_keeps_the_old_sgn),
+        ("unsound in a row", a_row_with_sgn_is_unsound),
+        ("25 bytes sound in a row", a_row_with_an_sgn_of_25_bytes_is_sound),
+        ("before SGC sound in a row", a_row_with_sgn_before_sgc_is_sound),
+    ] {
+        is_found_by_both(name, engine);
     }
 }
 
@@ -401,6 +575,7 @@ fn a_difference_is_replayed_by_its_script() {
         ("all refused", refuses_all, false),
         ("GL lists a slot twice", gl_lists_a_slot_twice, false),
         ("GL lists row by row", gl_lists_row_by_row, false),
+        ("SGN is dropped", sgn_is_dropped, false),
         ("KX leaves the keys", kx_leaves_keys, false),
         ("PENDING vends", |call| call.right(), true),
     ] {
@@ -429,6 +604,7 @@ fn a_history_is_replayed_whole() {
         ("a reload takes a second register", reload_takes_a_second_register, false),
         ("reset leaves LOADING", reset_leaves_loading, false),
         ("a load stores nothing", stores_nothing, false),
+        ("a reload keeps the old SGN", a_reload_keeps_the_old_sgn, false),
         ("PENDING vends", |call| call.right(), true),
     ] {
         let mut beside = Beside { wrong: Wrong(engine, pending_vends), right: String::new() };

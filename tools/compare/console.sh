@@ -44,9 +44,10 @@ changed() {
 finds() { if changed "$1" > /dev/null; then echo "console: no difference found with $1"; exit 1; fi; }
 
 changed cat
-# A list in another sequence, and one with a slot twice, each with its checksum.
+# A list in another sequence, one with a slot twice, and a card without its empty SGN, each with its checksum.
 finds "sed 's/PA~PB~7FFA/PB~PA~8FBE/'"
 finds "sed 's/PA~PB~7FFA/PA~PA~8FFA/'"
+finds "sed 's/SGN;ULM1000;VND0;~A239/ULM1000;VND0;~578C/'"
 finds "sed '\$d'"
 finds "sed '\$p'"
 finds "sed 's/ yes\$/ no/'"

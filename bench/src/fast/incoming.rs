@@ -3,7 +3,7 @@
 use super::text;
 use reference::RegisterRow;
 
-/// The values of an incoming card that are stored; an optional one that is absent has its default.
+/// The values of an incoming card that are stored; an optional one that is absent has its default, and SGN none.
 pub struct Card<'a> {
     act: &'a [u8],
     bdt: &'a [u8],
@@ -15,6 +15,7 @@ pub struct Card<'a> {
     ktc: &'a [u8],
     sbm: &'a [u8],
     sgc: &'a [u8],
+    sgn: Option<&'a [u8]>,
     ulm: &'a [u8],
 }
 
@@ -40,6 +41,7 @@ impl<'a> Card<'a> {
             ktc: b"",
             sbm: b"FFFF",
             sgc: b"",
+            sgn: None,
             ulm: b"999999999",
         };
         let mut at = 0;
@@ -72,6 +74,11 @@ impl<'a> Card<'a> {
             b"SBM" => (&mut self.sbm, is_hex_of(value, 4)),
             b"SGC" => (&mut self.sgc, is_ten_digits(value)),
             b"ULM" => (&mut self.ulm, text::is_decimal(value, 0, 999_999_999)),
+            // The one that may be empty (document 02, N2).
+            b"SGN" => {
+                self.sgn = Some(value);
+                return (value.len() <= 24).then_some(());
+            }
             // The engine's own are dropped, but not empty.
             b"CLU" | b"KCV" | b"KSL" | b"VND" => return (!value.is_empty()).then_some(()),
             _ => return Some(()),
@@ -87,7 +94,7 @@ impl<'a> Card<'a> {
 
     /// Fills a register row; gives the length of its card.
     pub fn store(&self, row: &mut RegisterRow, slot: &[u8], check: &[u8]) -> usize {
-        let entries: [(&[u8; 3], &[u8]); 15] = [
+        let start: [(&[u8; 3], &[u8]); 13] = [
             (b"ACT", self.act),
             (b"BDT", self.bdt),
             (b"CLM", self.clm),
@@ -101,11 +108,11 @@ impl<'a> Card<'a> {
             (b"KTC", self.ktc),
             (b"SBM", self.sbm),
             (b"SGC", self.sgc),
-            (b"ULM", self.ulm),
-            (b"VND", b"0"),
         ];
+        let group_name: Option<(&[u8; 3], &[u8])> = self.sgn.map(|value| (b"SGN", value));
+        let end: [(&[u8; 3], &[u8]); 2] = [(b"ULM", self.ulm), (b"VND", b"0")];
         let mut at = 0;
-        for (name, value) in entries {
+        for (name, value) in start.into_iter().chain(group_name).chain(end) {
             row.card[at..at + 3].copy_from_slice(name);
             row.card[at + 3..at + 3 + value.len()].copy_from_slice(value);
             at += 4 + value.len();

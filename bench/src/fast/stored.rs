@@ -1,4 +1,5 @@
-//! A card as stored, judged in one pass. Up to KEN, and from KTC to ULM, all stands at fixed places, which are compared by ranges without a branch.
+//! A card as stored, judged in one pass. Up to KEN, and from KTC to ULM or SGN, all stands at fixed places, which are
+//! compared by ranges without a branch.
 
 use super::names::Names;
 use super::text;
@@ -46,6 +47,8 @@ static FIRST: Shape<START> =
     Shape::new(b"ACT########T######Z;BDT########T######Z;CLM@@@@@@@@;CLU0;DKG0#;IUT########T######Z;KCV@@@@@@;KEN");
 static SECOND: Shape<16> = Shape::new(b";KRN#;KSL*******");
 static THIRD: Shape<32> = Shape::new(b";KTC#;SBM@@@@;SGC##########;ULM#");
+/// The same in a card with SGN.
+static NAMED: Shape<32> = Shape::new(b";KTC#;SBM@@@@;SGC##########;SGN*");
 
 /// What a stored card says that other rows are compared with.
 pub struct Held {
@@ -105,6 +108,24 @@ fn is_zero_from(card: &[u8; 256], at: usize) -> bool {
     all == 0
 }
 
+/// The place of ULM's value in a card with SGN: 0 to 24 bytes that a value may have (document 02, N2). A function of
+/// its own, so that cards without SGN take no longer.
+#[inline(never)]
+fn after_group_name(card: &[u8; 256], at: usize) -> Option<usize> {
+    if !NAMED.fits(part(card, at)?) {
+        return None;
+    }
+    let at = at + 31;
+    let bytes: &[u8; 32] = part(card, at)?;
+    let length = text::find(bytes, 0, b';');
+    let mut wrong = length > 24;
+    for (&byte, &place) in bytes.iter().zip(&PLACES) {
+        let other = (byte.wrapping_sub(0x20) > 0x7D - 0x20) | (byte == b'|');
+        wrong |= other & (place < length as u8);
+    }
+    (!wrong && part(card, at + length)? == b";ULM").then_some(at + length + 4)
+}
+
 /// The card of a row that is not free, where it is as stored and its slot is among the names.
 pub fn judge(card: &[u8; 256], names: &Names) -> Option<Held> {
     let first: &[u8; START] = card.first_chunk()?;
@@ -134,12 +155,12 @@ pub fn judge(card: &[u8; 256], names: &Names) -> Option<Held> {
     let (slot, length) = names.place(part(card, at)?)?;
     let at = at + length;
     let third = part(card, at)?;
-    if !THIRD.fits(third) || third[4] > b'3' {
+    let at = if THIRD.fits(third) { at + 31 } else { after_group_name(card, at)? };
+    if third[4] > b'3' {
         return None;
     }
     let group: &[u8; 10] = third[17..].first_chunk()?;
 
-    let at = at + 31;
     let at = at + nine_digits(card, at)?;
     if part::<4>(card, at)? != b";VND" {
         return None;

@@ -1,4 +1,4 @@
-//! Every optional value of a card given or not, and kept; every value of each form at its edges.
+//! Every optional value of a card given or not, and kept, with SGN and without; every value of each form at its edges.
 
 use super::scenes::{self, begin, kmc, load, CARD, CLOCK, STORED, TAG};
 use super::world::own_identity;
@@ -20,16 +20,21 @@ const DROPPED: [(&str, &str); 8] = [
     ("EXP", "20170506T215959Z"),
     ("KCV", "000000"),
     ("KSL", "KMC3"),
-    ("SGN", "My group"),
+    ("SGO", "My group"),
     ("VND", "999999999"),
     ("ZZZ", "{ }"),
 ];
 
+/// SGN, which has no default: it is stored as it comes, or not at all.
+const GROUP_NAMES: [Option<&str>; 3] = [None, Some(""), Some("My group")];
+
 pub fn card_values(bench: &mut Bench) -> Result<(), String> {
     for given in 0..16 {
         for value in 0..4 {
-            for dropped in [0, 1, 2, 4, 8, 16, 32, 64, 128, 255] {
-                stored(bench, given, value, dropped)?;
+            for name in GROUP_NAMES {
+                for dropped in [0, 1, 2, 4, 8, 16, 32, 64, 128, 255] {
+                    stored(bench, given, value, name, dropped)?;
+                }
             }
         }
     }
@@ -51,9 +56,10 @@ fn required() -> Vec<(&'static str, String)> {
         .collect()
 }
 
-/// The fifteen entries that are stored, with the optional values of the choice `given`.
-fn due(given: usize, value: usize) -> String {
+/// The entries that are stored, with the optional values of the choice `given`: fifteen, and SGN where it is given.
+fn due(given: usize, value: usize, name: Option<&str>) -> String {
     let mut entries = required();
+    entries.extend(name.map(|name| ("SGN", name.to_string())));
     for (place, (name, default, values)) in OPTIONAL.iter().enumerate() {
         let chosen = if given >> place & 1 == 1 { values[value] } else { default };
         entries.push((name, chosen.to_string()));
@@ -64,9 +70,10 @@ fn due(given: usize, value: usize) -> String {
     card(entries)
 }
 
-/// Loads a card with a choice of optional values and of names that are dropped: what is stored and told.
-fn stored(bench: &mut Bench, given: usize, value: usize, dropped: usize) -> Result<(), String> {
+/// Loads a card with a choice of optional values, an SGN and names that are dropped: what is stored and told.
+fn stored(bench: &mut Bench, given: usize, value: usize, name: Option<&str>, dropped: usize) -> Result<(), String> {
     let mut entries = required();
+    entries.extend(name.map(|name| ("SGN", name.to_string())));
     for (place, (name, _, values)) in OPTIONAL.iter().enumerate() {
         if given >> place & 1 == 1 {
             entries.push((name, values[value].to_string()));
@@ -80,7 +87,7 @@ fn stored(bench: &mut Bench, given: usize, value: usize, dropped: usize) -> Resu
     let (supplement, mut tables) = (scenes::supplement(), scenes::tables());
     let incoming = card(entries);
     bench.expect(0, &mut tables, &supplement, &load(incoming.as_bytes()), 1024)?;
-    let due = due(given, value);
+    let due = due(given, value, name);
     if bench.answer() != requests::frame(b"SM!KL", format!("00N3~P{due}~").as_bytes()) {
         return Err(format!("{incoming} is not stored as {due}"));
     }
@@ -97,7 +104,7 @@ fn kept(bench: &mut Bench) -> Result<(), String> {
     let mut tables = scenes::tables();
     let optional = "CLM44FA0000;DKG02;IUT20150301T140000Z;KEN";
     let full = String::from_utf8_lossy(CARD).replace("DKG04;KEN", optional).replace("SGC", "SBM0001;SGC");
-    bench.expect(0, &mut tables, &supplement, &load(format!("{full}ULM1000;").as_bytes()), 1024)?;
+    bench.expect(0, &mut tables, &supplement, &load(format!("{full}SGNMy group;ULM1000;").as_bytes()), 1024)?;
     let row = tables.registers[2];
     for request in [
         requests::of_register(Command::KD, 1),

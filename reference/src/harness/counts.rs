@@ -2,9 +2,9 @@
 
 use super::kinds::{self, BAD_PARTS, UNSOUND};
 use super::tables::Tables;
-use super::{Failure, LONGEST_BUFFER};
-use crate::rows::{IDLE, LOADING, MOST_REGISTERS, MOST_SLOTS, PENDING};
-use crate::{Command, Supplement};
+use super::{requests, Failure, LONGEST_BUFFER};
+use crate::rows::{self, IDLE, LOADING, MOST_REGISTERS, MOST_SLOTS, PENDING};
+use crate::{cards, Command, Supplement};
 use std::fmt;
 
 /// The refusals that the questions have for a command; 1 to 6 and 8 are for all, and 7 for none.
@@ -21,6 +21,9 @@ const REFUSALS: [&[usize]; 10] = [
     &[12],
 ];
 
+/// Cards without SGN, and with one of 0 to 24 bytes.
+const GROUP_NAMES: usize = 26;
+
 /// How often each thing that matters came up.
 #[derive(Clone, Debug)]
 pub struct Counts {
@@ -33,6 +36,13 @@ pub struct Counts {
     pub lists: [[u64; 2]; MOST_SLOTS + 1],
     /// Accepted SM?GL in which a slot's name is the beginning of the next one's.
     pub extensions: u64,
+    /// Accepted SM?KL by SGN of the card that came, and accepted SM?GA by SGN of the card that is told.
+    pub loaded_names: [u64; GROUP_NAMES],
+    pub told_names: [u64; GROUP_NAMES],
+    /// Accepted SM?KL of a key that is held: whether the old card has SGN, and whether the new one has.
+    pub reloads: [[u64; 2]; 2],
+    /// SM?KL refused with 10 for nothing but an SGN of 25 bytes, of 26 and of more.
+    pub long_names: [u64; 3],
     /// Answers of `usable`: no, yes.
     pub usable: [u64; 2],
     /// Calls by slot count and register count.
@@ -60,6 +70,10 @@ impl Counts {
             commands: [[0; 22]; 10],
             lists: [[0; 2]; MOST_SLOTS + 1],
             extensions: 0,
+            loaded_names: [0; GROUP_NAMES],
+            told_names: [0; GROUP_NAMES],
+            reloads: [[0; 2]; 2],
+            long_names: [0; 3],
             usable: [0; 2],
             row_counts: [[0; MOST_REGISTERS + 2]; MOST_SLOTS + 2],
             buffers: [0; LONGEST_BUFFER + 1],
@@ -84,8 +98,12 @@ impl Counts {
         }
         if let Some(place) = Command::ALL.iter().position(|command| request.starts_with(command.header())) {
             self.commands[place][usize::from(outcome)] += 1;
-            if outcome == 0 && Command::ALL[place] == Command::GL {
-                self.count_list(tables);
+            match (Command::ALL[place], outcome) {
+                (Command::GL, 0) => self.count_list(tables),
+                (Command::KL, 0) => self.count_load(tables, request),
+                (Command::KL, 10) => self.count_long_name(request),
+                (Command::GA, 0) => self.count_told(tables, request),
+                _ => {}
             }
         }
         self.row_counts[tables.slot_count][tables.register_count] += 1;
@@ -102,6 +120,41 @@ impl Counts {
         self.lists[names.len()][usize::from(!names.is_sorted())] += 1;
         names.sort();
         self.extensions += u64::from(names.windows(2).any(|pair| pair[1].starts_with(&pair[0])));
+    }
+
+    fn count_load(&mut self, tables: &Tables, request: &[u8]) {
+        let Some(card) = requests::card_in(request).and_then(cards::incoming) else { return };
+        self.loaded_names[kind(card.group_name())] += 1;
+        let held = rows::register_holding(tables.registers(), card.pair());
+        if let Some(old) = held.and_then(|register| cards::stored(&tables.registers[register].card)) {
+            let [old, new] = [old, card].map(|card| usize::from(card.group_name().is_some()));
+            self.reloads[old][new] += 1;
+        }
+    }
+
+    fn count_told(&mut self, tables: &Tables, request: &[u8]) {
+        let row = requests::register_in(request).and_then(|register| tables.registers().get(register.checked_sub(1)?));
+        if let Some(card) = row.and_then(|row| cards::stored(&row.card)) {
+            self.told_names[kind(card.group_name())] += 1;
+        }
+    }
+
+    /// Where the card is in form once its SGN is cut to 24 bytes.
+    fn count_long_name(&mut self, request: &[u8]) {
+        let Some(card) = requests::card_in(request) else { return };
+        let (mut cut, mut length) = (Vec::new(), 0);
+        for entry in card.split_inclusive(|&byte| byte == b';') {
+            match entry {
+                [b'S', b'G', b'N', name @ .., b';'] if name.len() > 24 => {
+                    cut.extend_from_slice(&[&entry[..3], &name[..24], b";"].concat());
+                    length = name.len();
+                }
+                _ => cut.extend_from_slice(entry),
+            }
+        }
+        if length > 24 && cards::incoming(&cut).is_some() {
+            self.long_names[(length - 25).min(2)] += 1;
+        }
     }
 
     /// Of several faults none is known to be the one that was seen.
@@ -141,6 +194,19 @@ impl Counts {
             }
         }
         ask(self.extensions, "list with a name that is the beginning of the next".to_string());
+        for (kind, (&loaded, &told)) in self.loaded_names.iter().zip(&self.told_names).enumerate() {
+            let name = kind.checked_sub(1).map_or("no SGN".to_string(), |length| format!("SGN of {length} bytes"));
+            ask(loaded, format!("load with {name}"));
+            ask(told, format!("SM?GA of a card with {name}"));
+        }
+        for (&count, new) in
+            self.reloads.iter().flatten().zip(["no SGN over none", "SGN over none", "no SGN over one", "SGN over one"])
+        {
+            ask(count, format!("reload with {new}"));
+        }
+        for (&count, length) in self.long_names.iter().zip(["25 bytes", "26 bytes", "more than 26 bytes"]) {
+            ask(count, format!("load refused for an SGN of {length}"));
+        }
         for (answer, &count) in ["no", "yes"].iter().zip(&self.usable) {
             ask(count, format!("usable {answer}"));
         }
@@ -169,6 +235,11 @@ impl Counts {
         }
         Err(Failure { text: format!("never came up: {}\n{self}", missing.join(", ")), script: Vec::new() })
     }
+}
+
+/// Where a card is counted by its SGN.
+fn kind(group_name: Option<&[u8]>) -> usize {
+    group_name.map_or(0, |name| 1 + name.len())
 }
 
 fn place(kinds: &[&str], kind: &str) -> usize {
@@ -202,6 +273,10 @@ impl fmt::Display for Counts {
         let others = spread(self.lists.iter().skip(2).map(|[_, other]| other));
         writeln!(out, "  lengths of lists in another sequence than the rows: {others}")?;
         writeln!(out, "  lists with a name that is the beginning of the next: {}", self.extensions)?;
+        writeln!(out, "  loads by SGN, absent or of 0 to 24 bytes: {}", spread(self.loaded_names.iter()))?;
+        writeln!(out, "  loads refused for a longer SGN alone: {}", self.long_names.iter().sum::<u64>())?;
+        writeln!(out, "  reloads with SGN or without, over one or none: {}", spread(self.reloads.iter().flatten()))?;
+        writeln!(out, "  cards of SM?GA by SGN: {}", spread(self.told_names.iter()))?;
         writeln!(out, "calls and acceptances")?;
         for (command, counts) in Command::ALL.iter().zip(self.commands) {
             writeln!(out, "  {} {:>9} {:>9}", name(command), counts.iter().sum::<u64>(), counts[0])?;
@@ -230,6 +305,10 @@ mod tests {
             commands: [[1; 22]; 10],
             lists: [[1; 2]; MOST_SLOTS + 1],
             extensions: 1,
+            loaded_names: [1; GROUP_NAMES],
+            told_names: [1; GROUP_NAMES],
+            reloads: [[1; 2]; 2],
+            long_names: [1; 3],
             usable: [1; 2],
             row_counts: [[1; MOST_REGISTERS + 2]; MOST_SLOTS + 2],
             buffers: [1; LONGEST_BUFFER + 1],
@@ -254,10 +333,18 @@ mod tests {
         );
         let extension = "never came up: list with a name that is the beginning of the next";
         assert_eq!(told(&|counts| counts.extensions = 0), extension);
+        assert_eq!(told(&|counts| counts.loaded_names[0] = 0), "never came up: load with no SGN");
+        assert_eq!(told(&|counts| counts.loaded_names[25] = 0), "never came up: load with SGN of 24 bytes");
+        let shown = "never came up: SM?GA of a card with SGN of 0 bytes";
+        assert_eq!(told(&|counts| counts.told_names[1] = 0), shown);
+        assert_eq!(told(&|counts| counts.reloads[1][0] = 0), "never came up: reload with no SGN over one");
+        let long = "never came up: load refused for an SGN of 25 bytes";
+        assert_eq!(told(&|counts| counts.long_names[0] = 0), long);
         assert_eq!(told(&|counts| counts.usable[1] = 0), "never came up: usable yes");
         assert_eq!(told(&|counts| counts.row_counts[9][33] = 0), "never came up: 9 slots and 33 registers");
         assert_eq!(told(&|counts| counts.buffers[1023] = 0), "never came up: buffer of 1023 bytes");
-        assert_eq!(told(&|counts| counts.unsound[14] = 0), "never came up: fault alone: key twice");
+        assert_eq!(told(&|counts| counts.unsound[12] = 0), "never came up: fault alone: SGN out of form");
+        assert_eq!(told(&|counts| counts.unsound[16] = 0), "never came up: fault alone: key twice");
         assert_eq!(told(&|counts| counts.bad_parts[8] = 0), "never came up: fault alone: passed");
         let row = "never came up: fault alone in row 40 of slots and registers";
         assert_eq!(told(&|counts| counts.unsound_rows[39] = 0), row);

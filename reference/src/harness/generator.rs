@@ -58,6 +58,12 @@ impl Generator {
         (0..length).map(|_| b"0123456789ABCDEF"[self.below(16)]).collect()
     }
 
+    /// `length` bytes that a value of a card may have.
+    pub fn value(&mut self, length: usize) -> Vec<u8> {
+        let bytes: Vec<u8> = (0x20..=0x7D).filter(|byte| !b";|".contains(byte)).collect();
+        (0..length).map(|_| *self.pick(&bytes)).collect()
+    }
+
     /// A timestamp in the years 2001 to 2040.
     pub fn timestamp(&mut self) -> [u8; 16] {
         let text = format!(

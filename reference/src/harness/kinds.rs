@@ -5,7 +5,7 @@ use crate::rows::{self, RegisterRow, SlotRow, FREE, IDLE, LOADING, PENDING};
 use crate::{cards, text, Supplement};
 
 /// Question 3's kinds.
-pub const UNSOUND: [&str; 15] = [
+pub const UNSOUND: [&str; 17] = [
     "state of none",
     "free slot not zero",
     "name out of form",
@@ -18,6 +18,8 @@ pub const UNSOUND: [&str; 15] = [
     "free register not zero",
     "CLU not 0",
     "VND out of range",
+    "SGN out of form",
+    "SGN out of place",
     "card not as stored",
     "KSL of no slot",
     "key twice",
@@ -91,27 +93,28 @@ fn of_slot(slot: &SlotRow) -> Vec<&'static str> {
 
 /// The fault of a register that is not free, and whose card is not as stored.
 fn of_register(register: &RegisterRow) -> &'static str {
-    let alone = |name: &[u8]| cards::stored(&with_zero(register, name)).is_some();
+    let alone = |name: &[u8]| cards::stored(&with_entry(register, name, &[name, b"0;"].concat())).is_some();
     if register.card[0] == 0 {
         "free register not zero"
     } else if alone(b"CLU") {
         "CLU not 0"
     } else if alone(b"VND") {
         "VND out of range"
+    } else if alone(b"SGN") {
+        "SGN out of form"
+    } else if cards::stored(&with_entry(register, b"SGN", b"")).is_some() {
+        "SGN out of place"
     } else {
         "card not as stored"
     }
 }
 
-/// The card with 0 for the value of a name.
-fn with_zero(register: &RegisterRow, name: &[u8]) -> [u8; cards::SPACE] {
+/// The card with another entry in place of each one of a name.
+fn with_entry(register: &RegisterRow, name: &[u8], other: &[u8]) -> [u8; cards::SPACE] {
     let mut text = Vec::new();
     for entry in register.card.split_inclusive(|&byte| byte == b';') {
-        if entry.starts_with(name) && entry.ends_with(b";") {
-            text.extend_from_slice(&[name, b"0;"].concat());
-        } else {
-            text.extend_from_slice(entry);
-        }
+        let of_name = entry.starts_with(name) && entry.ends_with(b";");
+        text.extend_from_slice(if of_name { other } else { entry });
     }
     text.resize(cards::SPACE, 0);
     text.try_into().expect("the space of a card")

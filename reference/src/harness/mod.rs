@@ -6,6 +6,7 @@ pub mod counts;
 pub mod dates;
 pub mod edits;
 pub mod generator;
+pub mod group_names;
 pub mod history;
 pub mod identities;
 pub mod kinds;
@@ -395,10 +396,11 @@ pub fn try_fuzz(engine: &mut dyn Engine, calls: u64, seed: u64) -> Result<Counts
 /// The shorter parts come first, so that most faults are found at once.
 fn fixed_parts(bench: &mut Bench) -> Result<(), String> {
     type Part = fn(&mut Bench) -> Result<(), String>;
-    let parts: [(&'static str, Part); 14] = [
+    let parts: [(&'static str, Part); 15] = [
         ("named cases", parts::named_cases),
         ("first questions", parts::first_questions),
         ("lists", lists::lists),
+        ("group names", group_names::group_names),
         ("identities", identities::identities),
         ("card values", card_values::card_values),
         ("places", places::places),

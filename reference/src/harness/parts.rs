@@ -29,8 +29,8 @@ pub fn named_cases(bench: &mut Bench) -> Result<(), String> {
     }
     // A request of 1,024 bytes is right, one of 1,025 is 5.
     for (length, outcome) in [(1024, 0), (1025, 5)] {
-        let padding = length - load(&[CARD, b"SGN;"].concat()).len();
-        let card = [CARD, b"SGN", &vec![b'x'; padding], b";"].concat();
+        let padding = length - load(&[CARD, b"ZZZ;"].concat()).len();
+        let card = [CARD, b"ZZZ", &vec![b'x'; padding], b";"].concat();
         bench.expect(outcome, &mut scenes::tables(), &supplement, &load(&card), 1024)?;
     }
     // 6: wrong, in small letters, no hexadecimal at all; 7.
@@ -158,6 +158,13 @@ pub fn named_cases(bench: &mut Bench) -> Result<(), String> {
         ("KTC2", "KTC2;SBM", 10),
         ("SGC0000758825;", "", 10),
         ("SGC0000758825;", "SGC0000758825", 10),
+        ("SGC0000758825;", "SGC0000758825;SGN;", 0),
+        ("SGC0000758825;", "SGC0000758825;SGNx;", 0),
+        ("SGC0000758825;", "SGC0000758825;SGNSURELOAD KMC TEST VUDK 1;ULM0;", 0),
+        ("SGC0000758825;", "SGC0000758825;SGNSURELOAD KMC TEST VUDK 10;", 10),
+        ("SGC0000758825;", "SGC0000758825;SGNx;SGNx;", 10),
+        ("SGC0000758825;", "SGNx;SGC0000758825;", 10),
+        ("SGC0000758825;", "SGC0000758825;ULM0;SGNx;", 10),
         ("SGC0000758825;", "SGC0000758825;ULM0;VND9;ZZZ;", 0),
         ("SGC0000758825;", "SGC0000758825;ULM999999999;", 0),
         ("SGC0000758825;", "SGC0000758825;ULM1000000000;", 10),
@@ -295,16 +302,18 @@ pub fn reading(bench: &mut Bench) -> Result<(), String> {
             }
         }
     }
-    // The longest card and the shortest.
-    let longest = card_of(0, &long_name(0)).replace("VND0", "VND999999999");
+    // The longest card, the longest one without SGN, and the shortest.
+    let without = card_of(0, &long_name(0)).replace("VND0", "VND999999999");
+    let longest = without.replace("KRN1", "KRN2").replace("ULM", "SGNSURELOAD KMC TEST VUDK 1;ULM");
     let shortest = card_of(1, b"k").replace("KEN255", "KEN0").replace("ULM999999999", "ULM0");
-    assert_eq!((longest.len(), shortest.len()), (202, 145));
-    let mut tables = Tables::empty(2, 2);
+    assert_eq!((longest.len(), without.len(), shortest.len()), (230, 202, 145));
+    let mut tables = Tables::empty(2, 3);
     put_slot(&mut tables, 0, IDLE, b"k");
     put_slot(&mut tables, 1, LOADING, &long_name(0));
     tables.put_card(0, longest.as_bytes());
     tables.put_card(1, shortest.as_bytes());
-    for (register, card) in [(1, longest), (2, shortest)] {
+    tables.put_card(2, without.as_bytes());
+    for (register, card) in [(1, longest), (2, shortest), (3, without)] {
         bench.expect(0, &mut tables, &supplement, &requests::of_register(Command::GA, register), 1024)?;
         if bench.answer() != requests::frame(b"SM!GA", format!("00P{card}~").as_bytes()) {
             return Err(format!("register {register} does not tell its card"));
@@ -437,7 +446,7 @@ pub fn buffers(bench: &mut Bench) -> Result<(), String> {
 }
 
 /// What makes a card that a register keeps unsound, wherever it stands: a text of `STORED` and what takes its place.
-pub(super) const CARD_FAULTS: [(&str, &str); 45] = [
+pub(super) const CARD_FAULTS: [(&str, &str); 49] = [
     ("CLU0", "CLU1"),
     ("CLU0", "CLU00"),
     ("CLU0", "CLU"),
@@ -479,7 +488,11 @@ pub(super) const CARD_FAULTS: [(&str, &str); 45] = [
     ("SBMFFFF;", ""),
     ("DKG04;", "DKG04;DKG04;"),
     ("KEN255;KRN1;", "KRN1;KEN255;"),
-    ("SGC0000123457;", "SGC0000123457;SGNname;"),
+    ("SGC0000123457;", "SGC0000123457;SGOname;"),
+    ("SGC0000123457;", "SGC0000123457;SGNSURELOAD KMC TEST VUDK 10;"),
+    ("SGC0000123457;", "SGC0000123457;SGNname;SGNname;"),
+    ("SGC0000123457;", "SGNname;SGC0000123457;"),
+    ("ULM999999999;", "ULM999999999;SGNname;"),
     ("CLM", "clm"),
     ("ACT", "ABT"),
     ("KTC2;", "KTC2|"),
@@ -575,6 +588,9 @@ pub fn rows(bench: &mut Bench) -> Result<(), String> {
         ("KTC2", "KTC0"),
         ("DKG04", "DKG02"),
         ("SGC0000123457", "SGC9999999999"),
+        ("SGC0000123457;", "SGC0000123457;SGN;"),
+        ("SGC0000123457;", "SGC0000123457;SGNx;"),
+        ("SGC0000123457;", "SGC0000123457;SGNSURELOAD KMC TEST VUDK 1;"),
     ] {
         cases.push((0, card(from, to)));
     }
@@ -783,7 +799,7 @@ fn spoil_rows(world: &mut World, tables: &mut Tables) {
     let slot = generator.below(tables.slot_count.clamp(1, 8));
     let register = generator.below(tables.register_count.clamp(1, 32));
     let byte = generator.byte();
-    match generator.below(9) {
+    match generator.below(11) {
         0 => tables.slot_count = *generator.pick(&[0, 9]),
         1 => tables.register_count = *generator.pick(&[0, 33]),
         2 => tables.slots[slot].state = generator.below(6) as u8,
@@ -792,6 +808,7 @@ fn spoil_rows(world: &mut World, tables: &mut Tables) {
         5 => tables.slots[slot].tvp[generator.below(16)] = byte,
         6 => tables.registers[register].card[generator.below(256)] = byte,
         7 => tables.slots[generator.below(8)] = tables.slots[slot],
+        8 | 9 => world.name_group(&mut tables.registers[register]),
         _ => tables.registers[generator.below(32)] = tables.registers[register],
     }
 }

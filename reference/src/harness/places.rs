@@ -189,7 +189,7 @@ pub fn unsound_places(bench: &mut Bench) -> Result<(), String> {
 }
 
 /// Rows that must be sound or not: a request that does not look at them, and every key.
-fn judge(bench: &mut Bench, sound: bool, tables: &Tables) -> Result<(), String> {
+pub(super) fn judge(bench: &mut Bench, sound: bool, tables: &Tables) -> Result<(), String> {
     let mut after = tables.clone();
     ask(bench, if sound { 0 } else { 3 }, &mut after, &requests::bare(Command::RS))?;
     bench.expect_usable(&after, &|register| {

@@ -110,7 +110,7 @@ impl Maker {
         }
     }
 
-    /// A call over a row with one byte changed; then the row is as it was.
+    /// A call over a row with one byte changed, or a card with another SGN; then the row is as it was.
     fn spoiled_row(&mut self) {
         let tables = self.console.tables.clone();
         let generator = &mut self.world.generator;
@@ -125,8 +125,12 @@ impl Maker {
             41..=56 => row.fingerprint[place - 41] = byte,
             _ => row.tvp[place - 57] = byte,
         }
-        key.card[generator.below(256)] = byte;
-        let lines = if generator.chance(50) {
+        if generator.chance(70) {
+            key.card[generator.below(256)] = byte;
+        } else {
+            self.world.name_group(&mut key);
+        }
+        let lines = if self.world.generator.chance(50) {
             [slot_line(slot + 1, &row), slot_line(slot + 1, &tables.slots[slot])]
         } else {
             [register_line(register + 1, &key), register_line(register + 1, &tables.registers[register])]

@@ -1,5 +1,6 @@
 //! Requests and supplements built from their parts.
 
+use crate::fields::Reader;
 use crate::records;
 use crate::{crc, Command, Supplement};
 
@@ -52,6 +53,20 @@ pub fn respond(kmc: &[u8], module: &[u8], tvp: &[u8], tag: &[u8]) -> Vec<u8> {
 pub fn load(slot: &[u8], nonce: &[u8], card: &[u8], encrypted: &[u8]) -> Vec<u8> {
     let record = records::build(b"KEY.1", b'|', &[nonce, card, encrypted]);
     frame(Command::KL.header(), &[string(slot), string(&record)].concat())
+}
+
+/// The card of an SM?KL, where its fields and its record parse.
+pub fn card_in(request: &[u8]) -> Option<&[u8]> {
+    let mut fields = Reader::new(request.get(5..request.len().checked_sub(5)?)?);
+    fields.string()?;
+    let [_, card, _] = records::parse(fields.string()?, b"KEY.1", b'|')?;
+    Some(card)
+}
+
+/// The register of an SM?GA or SM?KD, where its field parses.
+pub fn register_in(request: &[u8]) -> Option<usize> {
+    let number = Reader::new(request.get(5..request.len().checked_sub(5)?)?).number()?;
+    usize::try_from(number).ok()
 }
 
 /// A supplement from its parts; `passed` is 1.

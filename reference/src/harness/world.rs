@@ -6,7 +6,7 @@ use super::generator::Generator;
 use super::requests;
 use super::tables::Tables;
 use crate::rows::{self, FREE, IDLE, LOADING, PENDING};
-use crate::{cards, Command, Supplement};
+use crate::{cards, Command, RegisterRow, Supplement};
 
 /// Most names share a beginning, also all of a shorter name, and differ after it in a byte of each kind, so that a list
 /// in another sequence shows (document 02, N1). Five fill their place in a row.
@@ -126,6 +126,32 @@ impl World {
             6 => supplement.check[generator.below(6)] = byte,
             _ => supplement.passed = byte,
         }
+    }
+
+    /// Gives a stored card an SGN of 0 to 26 bytes in its place, or of 0 to 24 beside it or anywhere. Whether the card
+    /// is sound then is left to question 3.
+    pub fn name_group(&mut self, row: &mut RegisterRow) {
+        let generator = &mut self.generator;
+        let text = cards::written(&row.card).to_vec();
+        let mut entries: Vec<&[u8]> = text.split_inclusive(|&byte| byte == b';').collect();
+        // In one card of four it is there a second time, if it was there before.
+        if generator.chance(75) {
+            entries.retain(|entry| !entry.starts_with(b"SGN"));
+        }
+        let own = entries.iter().position(|entry| entry.starts_with(b"ULM"));
+        let place = match (own, generator.below(10)) {
+            (Some(own), 0..=4) => own,
+            (Some(own), 5..=6) => own.saturating_sub(1),
+            (Some(own), 7..=8) => own + 1,
+            _ => generator.below(entries.len() + 1),
+        };
+        let long = Some(place) == own && generator.chance(50);
+        let length = if long { generator.between(25, 26) } else { generator.between(0, 24) };
+        let name = [b"SGN", &generator.value(length)[..], b";"].concat();
+        entries.insert(place, &name);
+        let mut text = entries.concat();
+        text.resize(cards::SPACE, 0);
+        row.card.copy_from_slice(&text);
     }
 
     /// The next request of a history: mostly good, else torn, forged or repeated.
@@ -346,7 +372,12 @@ impl World {
                 put(own, generator.pick(&["0", "KMC", "1 }{", "000000"]).to_string());
             }
         }
-        for unknown in ["AAA", "EXP", "SGN", "ZZZ"] {
+        // Of each length that it may have.
+        if generator.chance(50) {
+            let length = generator.between(0, 24);
+            put("SGN", String::from_utf8_lossy(&generator.value(length)).into_owned());
+        }
+        for unknown in ["AAA", "EXP", "SGO", "ZZZ"] {
             if generator.chance(12) {
                 put(unknown, generator.pick(&["", "0", "SURELOAD KMC TEST"]).to_string());
             }
@@ -393,7 +424,7 @@ impl World {
         ];
         let generator = &mut self.generator;
         let place = generator.below(entries.len());
-        match generator.below(8) {
+        match generator.below(9) {
             0 => {
                 entries.remove(place);
             }
@@ -408,6 +439,13 @@ impl World {
                 let mut text = text(&entries);
                 text.pop();
                 return text;
+            }
+            6 => {
+                let length = generator.between(25, 26);
+                let name = String::from_utf8_lossy(&generator.value(length)).into_owned();
+                entries.retain(|(other, _)| other != "SGN");
+                entries.push(("SGN".to_string(), name));
+                entries.sort();
             }
             _ => {
                 let (name, value) = *generator.pick(&BAD);
