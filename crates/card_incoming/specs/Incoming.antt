@@ -21,7 +21,7 @@ use Rattle.card_attributes.specs.declared.Presence.the-variants.{Required, Opti
 use Rattle.card_attributes.specs.declared.Attribute.{Attribute}
 
 -- v under a known name: in form, so its bytes are 20 to 7D but ; and | (forms, in-form-value); the engine's own are not
--- judged, but not empty
+-- judged, but not empty. SGN alone may be empty (document 02, N2)
 abbrev pub fitsAs : Presence → Form → List ℕ → Bool
 fitsAs Required f v = inForm f v
 fitsAs Optional f v = inForm f v
