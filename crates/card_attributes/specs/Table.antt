@@ -100,7 +100,7 @@ table =
 abbrev pub rows : ℕ
 rows = 16
 
--- whether every stored card has the attribute
+-- whether every stored card has an attribute of this presence
 abbrev pub isAlways : Presence → Bool
 isAlways Required = true
 isAlways Optional = true

@@ -5,7 +5,7 @@ use mathlib.Core.List.{List, [], _∷_, _++_, append-assoc, append-nil}
 use mathlib.Core.Option.{none, some}
 use Prim.Native.Nat.{ℕ, zero, suc, _+_, _-_, _≤_, _<_}
 use native.Mathlib.Omega.{arith}
-use lib.Dec.{T, eqb, ltb, leb, le→leb, leb→le, ltb→lt}
+use lib.Dec.{T, eqb, leb, le→leb, leb→le, ltb→lt}
 use lib.ListN.{length, take, drop, replicate, length-append, length-replicate}
 use lib.Seq.{take-at}
 use borrow.Author.Tests.{eq-eqb, eqb-true}
@@ -23,7 +23,7 @@ use Rattle.text_forms.proofs.FormBounds.{in-form-plain, semicolon, in-form-text
 use Rattle.card_entries.specs.Entries.{nameOf, valueIn, valueOf, nameBytes, entryBytes}
 use Rattle.card_attributes.specs.Table.{table, isAlways, always, name, presence, form}
 use Rattle.card_stored.specs.Stored.{cardBytes, inRow, isEntryOf, isStored}
-use Rattle.card_stored.proofs.Sequence.{isStoredFrom, first-cut, stored-by-entries}
+use Rattle.card_stored.proofs.Sequence.{isStoredFrom, first-cut, hasName, stored-by-entries}
 use Rattle.card_attributes.specs.declared.Attribute.{Attribute}
 use Rattle.card_entries.proofs.EntryLaws.{a-name, entry-length}
 use Rattle.card_attributes.proofs.TableLaws.{allRows, both, at-row, all-rows}
@@ -281,7 +281,7 @@ module _ (f : ℕ → List ℕ) where
     module _ (k : ℕ) (a : Attribute) (r : List Attribute) (e : drop k (rowsOf t) ≡ a ∷ r) where
       some-name : 0 < name a
       unfolding table
-      some-name = ltb→lt 0 (name a) (at-row (λ (x : Attribute). ltb 0 (name x)) (rowsOf t) (all-of (λ (x : Attribute). ltb 0 (name x)) t tt) k a r e)
+      some-name = ltb→lt 0 (name a) (at-row hasName (rowsOf t) (all-of hasName t tt) k a r e)
 
       pub reads-card : valueOf (name a) card ≡ some (f (name a))
       reads-card = sym (a-name card (name a) (λ z. omega (arith, some-name))) ∙ rw append-nil at (back (rowsOf t) [] written (all-distinct t) in-form k a r e)

@@ -21,7 +21,7 @@ use Rattle.card_attributes.specs.declared.Attribute.{Attribute}
 use Rattle.card_attributes.proofs.TableLaws.{allRows}
 use Rattle.card_stored.specs.Stored.{isEntryOf, areEntriesOf, isStored}
 use Rattle.card_stored.proofs.Runs.{parted}
-use Rattle.card_stored.proofs.Sequence.{isStoredFrom, entry-text, stored-walk}
+use Rattle.card_stored.proofs.Sequence.{isStoredFrom, entry-text, hasName, stored-walk}
 use Rattle.card_laws.proofs.RoundTrip.{zero-pieces}
 
 -- the first entry, and what follows it
@@ -66,17 +66,14 @@ zeros-text : (s : List ℕ) → allOf (isOf Zero) s ≡ true → allOf (isOf Tex
 zeros-text [] e = refl
 zeros-text (b ∷ bs) e = rw (and-first (eqb b 0) (allOf (isOf Zero) bs) e) refl
 
-abbrev isSome : Attribute → Bool
-isSome a = ltb 0 (name a)
-
-text-from : (rs : List Attribute) → T (allRows isSome rs) → (s : List ℕ) → isStoredFrom rs s ≡ true → allOf (isOf Text) (take (run (isNot 0) s) s) ≡ true
+text-from : (rs : List Attribute) → T (allRows hasName rs) → (s : List ℕ) → isStoredFrom rs s ≡ true → allOf (isOf Text) (take (run (isNot 0) s) s) ≡ true
 unfolding areAll
 text-from [] w s e = zeros-text s e
 text-from (x ∷ rs) w s e =
-    let n : 0 < name x = ltb→lt 0 (name x) (and-left (isSome x) (allRows isSome rs) w) in
+    let n : 0 < name x = ltb→lt 0 (name x) (and-left (hasName x) (allRows hasName rs) w) in
     let p = entry x rs s e in
     let t : allOf (isOf Text) p ≡ true = entry-text x n p (entry-is x rs s e) in
-    let m = text-from rs (and-right (isSome x) (allRows isSome rs) w) (behind x rs s e) (stored-behind x rs s e) in
+    let m = text-from rs (and-right (hasName x) (allRows hasName rs) w) (behind x rs s e) (stored-behind x rs s e) in
     rw (parted 59 s (entry-ends x rs s e)) (upto (isOf Text) (isNot 0) p (59 ∷ behind x rs s e) t m)
 
 pub stored-text : (s : List ℕ) → isStored s ≡ true → areAll Text (take (run (isNot 0) s) s) ≡ true

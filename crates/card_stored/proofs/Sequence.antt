@@ -81,8 +81,9 @@ not-zero : (t : Bool) → not t ≡ true → t ≡ false
 not-zero true e = sym e
 not-zero false e = refl
 
-abbrev isSome : Attribute → Bool
-isSome a = ltb 0 (name a)
+-- an attribute has a name
+abbrev pub hasName : Attribute → Bool
+hasName a = ltb 0 (name a)
 
 -- c are the bytes before the first zero, z what follows them
 abbrev Same : List Attribute → List ℕ → List ℕ → Type 0
@@ -97,12 +98,12 @@ cut-same a rs p c z h more =
     turn false true y w = refl
     turn false false y w = refl
 
-by-entries : (rs : List Attribute) → T (allRows isSome rs) → (c z : List ℕ) → allOf (isNot 0) c ≡ true → run (isNot 0) z ≡ 0 → Same rs c z
+by-entries : (rs : List Attribute) → T (allRows hasName rs) → (c z : List ℕ) → allOf (isNot 0) c ≡ true → run (isNot 0) z ≡ 0 → Same rs c z
 unfolding areAll
 by-entries [] w [] z o q = refl
 by-entries [] w (b ∷ bs) z o q =
     rw (not-zero (eqb b 0) (and-first (not (eqb b 0)) (allOf (isNot 0) bs) o), some-entry b bs (areAll Zero z) (ltb (run (isNot 59) (b ∷ bs)) (length (b ∷ bs))) refl)
-by-entries (a ∷ rs) w c z o q = go (ltb (run (isNot 59) c) (length c)) refl (by-entries rs (and-right (isSome a) (allRows isSome rs) w))
+by-entries (a ∷ rs) w c z o q = go (ltb (run (isNot 59) c) (length c)) refl (by-entries rs (and-right (hasName a) (allRows hasName rs) w))
   where
     go : (t : Bool) → ltb (run (isNot 59) c) (length c) ≡ t → ((d y : List ℕ) → allOf (isNot 0) d ≡ true → run (isNot 0) y ≡ 0 → Same rs d y) → Same (a ∷ rs) c z
     go true e more =
@@ -113,7 +114,7 @@ by-entries (a ∷ rs) w c z o q = go (ltb (run (isNot 59) c) (length c)) refl (b
     go false e more =
         let k : run (isNot 59) c ≡ length c = omega (arith, ltb-false (run (isNot 59) c) (length c) e, run-le (isNot 59) c) in
         let m : allOf (isNot 59) c ≡ true = rw (k, take-length) at (run-all (isNot 59) c) in
-        rw (uncut a (ltb→lt 0 (name a) (and-left (isSome a) (allRows isSome rs) w)) rs c m z q, pieces-none 59 c k, and-false)
+        rw (uncut a (ltb→lt 0 (name a) (and-left (hasName a) (allRows hasName rs) w)) rs c m z q, pieces-none 59 c k, and-false)
 
 -- of one list of attributes, or of another
 module _ (s : List ℕ) where
@@ -123,10 +124,10 @@ module _ (s : List ℕ) where
   abbrev after : List ℕ
   after = drop (run (isNot 0) s) s
 
-  by-list : (rs : List Attribute) → T (allRows isSome rs) → isStoredFrom rs s ≡ (isEnded 59 before && (areEntriesOf rs (pieces 59 before) && areAll Zero after))
+  by-list : (rs : List Attribute) → T (allRows hasName rs) → isStoredFrom rs s ≡ (isEnded 59 before && (areEntriesOf rs (pieces 59 before) && areAll Zero after))
   by-list rs w = ap (isStoredFrom rs) (sym (take-append-drop (run (isNot 0) s) s)) ∙ by-entries rs w before after (run-all (isNot 0) s) (run-over (isNot 0) s)
 
-  by-either : (rs qs : List Attribute) → T (allRows isSome rs) → T (allRows isSome qs)
+  by-either : (rs qs : List Attribute) → T (allRows hasName rs) → T (allRows hasName qs)
       → (isStoredFrom rs s || isStoredFrom qs s) ≡ (isEnded 59 before && ((areEntriesOf rs (pieces 59 before) || areEntriesOf qs (pieces 59 before)) && areAll Zero after))
   by-either rs qs w v = rw (by-list rs w, by-list qs v) (either (isEnded 59 before) (areEntriesOf rs (pieces 59 before)) (areEntriesOf qs (pieces 59 before)) (areAll Zero after))
     where
