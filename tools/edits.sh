@@ -21,6 +21,10 @@ is_misfit() { grep -qE 'is checked against|was not admitted|binders, but its typ
 # The step at line $2 and column $3 of the file $1, as far as the words $4 go.
 stands_at() { local line; line=$(sed -n "$2p" "$1"); [ "${line:$3-1:${#4}}" = "$4" ]; }
 
+# The first of the errors that is not only one of what is cited. It reads them all: where it stopped at the first, what
+# writes them could be broken off, and that would count as finding none.
+first_own() { grep -v 'was not admitted' | sed -n 1p; }
+
 # The function $1 is refused at the step $2, and by itself.
 holds_function() {
     local verdict error place proof
@@ -32,7 +36,7 @@ holds_function() {
     fi
     proof=proofs/$1/Proof.antt
     [ -f "$edited/$proof" ] || proof=proofs/+$1/Proof.antt # where rt keeps the proof of a function that calls itself
-    error=$(grep -F "/$proof:" <(grep ': error: ' "$log") | grep -v -m 1 'was not admitted') ||
+    error=$(grep -F "/$proof:" <(grep ': error: ' "$log") | first_own) ||
         { complain "$1 has no error of its own"; return; }
     place=${error#*"/$proof:"}
     if is_misfit "$error"; then complain "the proof of $1 does not fit its shape: ${place:0:160}"; return; fi
@@ -45,7 +49,7 @@ holds_function() {
 # The law $1 has an error of its own in the log, not only one of what it cites.
 holds_law() {
     local error
-    error=$(grep -F ": error: \`$1\`: " "$log" | grep -v -m 1 'was not admitted') ||
+    error=$(grep -F ": error: \`$1\`: " "$log" | first_own) ||
         { complain "the law $1 is not broken: $(grep -m 1 -o 'error: `[^`]*`.*' "$log" | cut -c1-120)"; return; }
     if is_misfit "$error"; then complain "no fact: ${error#*: error: }"; fi
 }
@@ -88,6 +92,9 @@ try() {
     forge '# f at f-spec: why' <<<"$at"$'\nfn c::f: not proved'; passes
     forge '# f at returns: why' <<<'fn c::f: no proof: expected `f-spec`; `search` does not close `returns`'; passes
     forge '# law l: why' <<<'/proofs/Laws.antt:1:1: error: `l`: the two types differ'; passes
+    # more errors than a pipe holds
+    { for _ in {1..2000}; do echo "$at"; done; echo 'fn c::f: not proved'; } | forge '# f at search here: why'; passes
+    for _ in {1..2000}; do echo '/proofs/Laws.antt:1:1: error: `l`: the two types differ'; done | forge '# law l: why'; passes
     forge '# f at search there: why' <<<"$at"$'\nfn c::f: not proved'; finds 'another step'
     forge '# f at search here: why' <<<"$at"$'\nfn c::f: proved'; finds 'a function that is still proved'
     forge '# f at search here: why' <<<"$at"$'\nfn c::f: not proved; it calls `c::g`, which is not proved'; passes
