@@ -9,7 +9,7 @@ cd "$(dirname "$0")/.."
 # The contracts of the entry points; the statement of the demands, and how calls and rows are read for them; SM?GL's
 # list; the supply group name.
 roots=(crates/diminurel/src/lib.rt crates/demands/specs/Demands.antt crates/demands/specs/Screens.antt
-    crates/demands/specs/GroupNames.antt)
+    crates/demands/specs/GroupNames.antt crates/demands/specs/Vending.antt)
 
 # What a file uses of the repository's definitions: a line "crate folder Module" or "crate folder declared.Type" each.
 uses() {

@@ -18,10 +18,10 @@ use Rattle.message_replies.specs.Responses.{replyBytes}
 use Rattle.record_parser.specs.Records.{bodyOf, field, isRecord}
 use Rattle.record_identities.specs.Identities.{identityInForm}
 use Rattle.row_types.specs.Lists.{padded, trimmed}
-use Rattle.row_types.specs.Registers.{isVacant, isRegisterSound, isSameKey, freeRegister}
-use Rattle.row_types.specs.Slots.{isZeroSlot, isNamed, isFilledSlot, isSlotSound, isSameSlot, freeSlot, filledSlot}
+use Rattle.row_types.specs.Registers.{isVacant, isRegisterSound, isSameKey, isClosed, isOpen, freeRegister}
+use Rattle.row_types.specs.Slots.{isZeroSlot, inSession, isNamed, isFilledSlot, isSlotSound, isSameSlot, freeSlot, filledSlot}
 use Rattle.row_types.specs.RowReplies.{slotNames}
-use Rattle.row_types.specs.Sound.{isOwned, areSound}
+use Rattle.row_types.specs.Sound.{isOwned, isInSession, isMarkSound, areSound}
 use Rattle.row_types.specs.Supplements.{isIdentityRight, isLoadRequestRight, isWellFormed}
 use Rattle.row_types.specs.declared.SlotRow.{SlotRow}
 use Rattle.row_types.specs.declared.SlotState.the-variants.{Pending, Loading, Idle}
@@ -76,5 +76,5 @@ eightSlots =
     ∷ []
 
 pub each-lists : EachLists (text "SM!GL00PA~PAB~PB~PZ~Pa~62A4\r") fiveSlots × EachLists (text "SM!GL00PA~PAB~PABC~PB~PBA~PZ~Pa~PaB~0BC7\r") eightSlots
-unfolding crcBit crcEight crcByte hexDigit sumDigits endsInSum isAlphanumeric areAll isIdentifier daysIn isDate isTime isDateAndTime timestampOf isTimestamp typed valuesOf contentBytes endsInReturn isWhole isChecked textOf headerOf payloadOf ending framed answered headers commandOf replyBytes bodyOf field isRecord identityInForm padded trimmed isVacant isRegisterSound isSameKey freeRegister isZeroSlot isNamed isFilledSlot isSlotSound isSameSlot freeSlot filledSlot slotNames isOwned areSound isIdentityRight isLoadRequestRight isWellFormed areFieldsOf recordIn slotIn areCounts questions answers.answered answerOf
+unfolding crcBit crcEight crcByte hexDigit sumDigits endsInSum isAlphanumeric areAll isIdentifier daysIn isDate isTime isDateAndTime timestampOf isTimestamp typed valuesOf contentBytes endsInReturn isWhole isChecked textOf headerOf payloadOf ending framed answered headers commandOf replyBytes bodyOf field isRecord identityInForm padded trimmed isVacant isRegisterSound isSameKey isClosed isOpen freeRegister isZeroSlot inSession isNamed isFilledSlot isSlotSound isSameSlot freeSlot filledSlot slotNames isOwned isInSession isMarkSound areSound isIdentityRight isLoadRequestRight isWellFormed areFieldsOf recordIn slotIn areCounts questions answers.answered answerOf
 each-lists = ((refl, (refl, (refl, tt))), (refl, (refl, tt)))

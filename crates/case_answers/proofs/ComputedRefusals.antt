@@ -25,9 +25,9 @@ use Rattle.card_incoming.specs.Incoming.{fits, isCard, isMet, isIncoming}
 use Rattle.record_identities.specs.Identities.{identityInForm}
 use Rattle.record_types.specs.KeyRecords.{keyInForm}
 use Rattle.row_types.specs.Lists.{padded, trimmed}
-use Rattle.row_types.specs.Registers.{isVacant, attributeOf, isRegisterSound, isSameKey, freeRegister}
-use Rattle.row_types.specs.Slots.{isZeroSlot, isNamed, isFilledSlot, isSlotSound, isSameSlot, freeSlot, filledSlot}
-use Rattle.row_types.specs.Sound.{isOwned, areSound}
+use Rattle.row_types.specs.Registers.{isVacant, attributeOf, isRegisterSound, isSameKey, isClosed, isOpen, freeRegister}
+use Rattle.row_types.specs.Slots.{isZeroSlot, inSession, isNamed, isFilledSlot, isSlotSound, isSameSlot, freeSlot, filledSlot}
+use Rattle.row_types.specs.Sound.{isOwned, isInSession, isMarkSound, areSound}
 use Rattle.row_types.specs.Supplements.{isIdentityRight, isLoadRequestRight, isWellFormed}
 use Rattle.engine.specs.Requests.{fieldsIn, areFieldsOf, recordIn, cardIn}
 use Rattle.engine.specs.Questions.{areCounts, questions}
@@ -83,5 +83,5 @@ EachAnswered (q ∷ qs) =
     (answerOf (callOf loading (hand q)) ≡ record { outcome = Refused BadForm; reply = some reply10; slots = loading .slots; registers = loading .registers }) × EachAnswered qs
 
 pub each-answered : EachAnswered (longName ∷ requests)
-unfolding crcBit crcEight crcByte hexDigit sumDigits endsInSum isAlphanumeric areAll isIdentifier isUnpadded isNumber daysIn isDate isTime isDateAndTime timestampOf isTimestamp typed valuesOf contentBytes endsInReturn isWhole isChecked textOf headerOf payloadOf ending framed answered headers commandOf bodyOf field isRecord isAlgorithm table nameOf valueOf fits isCard isMet isIncoming identityInForm keyInForm padded trimmed isVacant attributeOf isRegisterSound isSameKey freeRegister isZeroSlot isNamed isFilledSlot isSlotSound isSameSlot freeSlot filledSlot isOwned areSound isIdentityRight isLoadRequestRight isWellFormed areFieldsOf recordIn areCounts questions refused answerOf
+unfolding crcBit crcEight crcByte hexDigit sumDigits endsInSum isAlphanumeric areAll isIdentifier isUnpadded isNumber daysIn isDate isTime isDateAndTime timestampOf isTimestamp typed valuesOf contentBytes endsInReturn isWhole isChecked textOf headerOf payloadOf ending framed answered headers commandOf bodyOf field isRecord isAlgorithm table nameOf valueOf fits isCard isMet isIncoming identityInForm keyInForm padded trimmed isVacant attributeOf isRegisterSound isSameKey isClosed isOpen freeRegister isZeroSlot inSession isNamed isFilledSlot isSlotSound isSameSlot freeSlot filledSlot isOwned isInSession isMarkSound areSound isIdentityRight isLoadRequestRight isWellFormed areFieldsOf recordIn areCounts questions refused answerOf
 each-answered = (refl, (refl, (refl, tt)))

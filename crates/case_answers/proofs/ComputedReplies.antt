@@ -1,6 +1,6 @@
 -- SM?GA and SM?KQ in whole requests: the bytes of their answers are what the definition computes. The last is the example of 001 clause 5.3.3. And which key may vend, computed.
 use mathlib.Core.Path.{_≡_, refl}
-use mathlib.Core.Bool.{true, false}
+use mathlib.Core.Bool.{Bool, true, false}
 use mathlib.Core.List.{List, [], _∷_, _++_}
 use Prim.Native.Nat.{ℕ}
 use lib.ListN.{replicate}
@@ -27,10 +27,10 @@ use Rattle.card_stored.specs.Stored.{inRow, isEntryOf, isStored}
 use Rattle.record_identities.specs.Identities.{identityInForm}
 use Rattle.record_types.specs.KeyRecords.{keyInForm}
 use Rattle.row_types.specs.Lists.{padded, trimmed}
-use Rattle.row_types.specs.Registers.{isVacant, attributeOf, isKeyOf, isUnder, isRegisterSound, isSameKey, freeRegister, filledRegister}
-use Rattle.row_types.specs.Slots.{isZeroSlot, isNamed, isFilledSlot, isSlotSound, isSameSlot, freeSlot, filledSlot}
+use Rattle.row_types.specs.Registers.{isVacant, attributeOf, isKeyOf, isUnder, isRegisterSound, isSameKey, isClosed, isOpen, freeRegister, filledRegister, closedRow}
+use Rattle.row_types.specs.Slots.{isZeroSlot, inSession, isNamed, isFilledSlot, isSlotSound, isSameSlot, freeSlot, filledSlot}
 use Rattle.row_types.specs.RowReplies.{stateText, slotFields, queryFields}
-use Rattle.row_types.specs.Sound.{isOwned, areSound}
+use Rattle.row_types.specs.Sound.{isOwned, isInSession, isMarkSound, areSound}
 use Rattle.row_types.specs.Supplements.{isIdentityRight, isLoadRequestRight, isWellFormed}
 use Rattle.engine.specs.Requests.{areFieldsOf, recordIn, slotIn}
 use Rattle.engine.specs.Questions.{slotNamed, areCounts, isFilled, questions}
@@ -40,13 +40,15 @@ use Rattle.engine.specs.Words.{Lent, callOf}
 use Rattle.row_types.specs.declared.SlotState.the-variants.{Pending, Loading, Idle}
 use Rattle.row_types.specs.declared.SlotState.{SlotState}
 use Rattle.row_types.specs.declared.SlotRow.{SlotRow}
+use Rattle.row_types.specs.declared.RegisterRow.{RegisterRow}
 use Rattle.row_types.specs.declared.Tables.{Tables}
+use Rattle.row_types.specs.Places.{slotRows, registerRows}
 use Rattle.engine.specs.Usable.{isUsable}
 use Rattle.case_run.specs.Run.{clock, hand, a, b, printA, printB, cardB, lent}
 
 -- slot A is PENDING, slot B IDLE with its key in register 1, and register 2 is free
 abbrev pub replyRows : Lent
-replyRows = lent (filledSlot Pending a printA clock) (filledSlot Idle b printB []) (filledRegister cardB)
+replyRows = lent (filledSlot Pending a printA clock) (filledSlot Idle b printB []) (closedRow (filledRegister cardB))
 
 -- a request and the answer
 pub record ReplyCase : Type 0 where
@@ -89,21 +91,38 @@ EachReplied [] = Unit {0}
 EachReplied (r ∷ rs) = (response (answerOf (callOf replyRows (hand (r .request)))) ≡ r .answer) × EachReplied rs
 
 pub each-replied : EachReplied replyCases
-unfolding crcBit crcEight crcByte hexDigit sumDigits endsInSum isAlphanumeric areAll isIdentifier isUnpadded isNumber daysIn isDate isTime isDateAndTime timestampOf isTimestamp typed valuesOf contentBytes endsInReturn isWhole isChecked textOf headerOf payloadOf ending framed answered headers commandOf replyBytes bodyOf field isRecord isAlgorithm table always nameOf valueOf fits isCard isMet isIncoming identityInForm keyInForm padded trimmed isVacant attributeOf isRegisterSound isSameKey freeRegister isZeroSlot isNamed isFilledSlot isSlotSound isSameSlot freeSlot filledSlot isOwned areSound isIdentityRight isLoadRequestRight isWellFormed areFieldsOf recordIn areCounts questions refused answers.answered answerOf isStored isEntryOf inRow filledRegister isOctets isUnder isKeyOf slotIn slotNamed isFilled stateText slotFields queryFields decDigits decimalBytes
+unfolding crcBit crcEight crcByte hexDigit sumDigits endsInSum isAlphanumeric areAll isIdentifier isUnpadded isNumber daysIn isDate isTime isDateAndTime timestampOf isTimestamp typed valuesOf contentBytes endsInReturn isWhole isChecked textOf headerOf payloadOf ending framed answered headers commandOf replyBytes bodyOf field isRecord isAlgorithm table always nameOf valueOf fits isCard isMet isIncoming identityInForm keyInForm padded trimmed isVacant attributeOf isRegisterSound isSameKey isClosed isOpen freeRegister closedRow isZeroSlot inSession isNamed isFilledSlot isSlotSound isSameSlot freeSlot filledSlot isOwned isInSession isMarkSound areSound isIdentityRight isLoadRequestRight isWellFormed areFieldsOf recordIn areCounts questions refused answers.answered answerOf isStored isEntryOf inRow filledRegister isOctets isUnder isKeyOf slotIn slotNamed isFilled stateText slotFields queryFields decDigits decimalBytes
 each-replied = (refl, (refl, (refl, (refl, tt))))
 
--- which key may vend: that of register 1, under B, where B is IDLE, and not while B is PENDING or LOADING; no register that is free, 0 or beyond the rows
-abbrev tablesWith : SlotRow → Tables
-tablesWith slot = record { slots = slot ∷ replicate 7 freeSlot; registers = filledRegister cardB ∷ replicate 31 freeRegister; «slot_count» = 2; «register_count» = 2 }
+-- which key may vend: that of register 1, under B, where it is marked closed, whatever B's state
+abbrev tablesWith : SlotRow → RegisterRow → Tables
+tablesWith slot row = record { slots = slot ∷ replicate 7 freeSlot; registers = row ∷ replicate 31 freeRegister; «slot_count» = 2; «register_count» = 2 }
 
 abbrev slotB : SlotState → List ℕ → SlotRow
 slotB state tvp = filledSlot state b printB tvp
 
-pub vends : isUsable (tablesWith (slotB Idle [])) 1 ≡ true
-unfolding areAll isUnpadded isNumber daysIn isDate isTime isDateAndTime timestampOf isTimestamp isAlphanumeric isIdentifier isAlgorithm table always nameOf valueOf inRow isEntryOf isStored padded trimmed isVacant attributeOf isKeyOf isRegisterSound isSameKey freeRegister filledRegister isZeroSlot isNamed isFilledSlot isSlotSound isSameSlot freeSlot filledSlot isOwned areSound slotNamed areCounts isFilled isUsable
-vends = refl
+abbrev openB : RegisterRow
+openB = filledRegister cardB
 
-pub vends-not : (isUsable (tablesWith (slotB Pending clock)) 1 ≡ false) × (isUsable (tablesWith (slotB Loading [])) 1 ≡ false)
-    × (isUsable (tablesWith (slotB Idle [])) 0 ≡ false) × (isUsable (tablesWith (slotB Idle [])) 2 ≡ false) × (isUsable (tablesWith (slotB Idle [])) 3 ≡ false)
-unfolding areAll isUnpadded isNumber daysIn isDate isTime isDateAndTime timestampOf isTimestamp isAlphanumeric isIdentifier isAlgorithm table always nameOf valueOf inRow isEntryOf isStored padded trimmed isVacant attributeOf isKeyOf isRegisterSound isSameKey freeRegister filledRegister isZeroSlot isNamed isFilledSlot isSlotSound isSameSlot freeSlot filledSlot isOwned areSound slotNamed areCounts isFilled isUsable
+pub vends : (isUsable (tablesWith (slotB Idle []) (closedRow openB)) 1 ≡ true) × (isUsable (tablesWith (slotB Pending clock) (closedRow openB)) 1 ≡ true) × (isUsable (tablesWith (slotB Loading []) (closedRow openB)) 1 ≡ true)
+unfolding areAll isUnpadded isNumber daysIn isDate isTime isDateAndTime timestampOf isTimestamp isAlphanumeric isIdentifier isAlgorithm table always nameOf valueOf inRow isEntryOf isStored padded trimmed isVacant attributeOf isKeyOf isRegisterSound isSameKey isClosed isOpen freeRegister closedRow filledRegister isZeroSlot inSession isNamed isFilledSlot isSlotSound isSameSlot freeSlot filledSlot isOwned isInSession isMarkSound areSound slotNamed areCounts isFilled isUsable
+vends = (refl, refl, refl)
+
+-- an open key may not; nor a register that is free, 0 or beyond the rows
+pub vends-not : (isUsable (tablesWith (slotB Pending clock) openB) 1 ≡ false) × (isUsable (tablesWith (slotB Loading []) openB) 1 ≡ false)
+    × (isUsable (tablesWith (slotB Idle []) (closedRow openB)) 0 ≡ false) × (isUsable (tablesWith (slotB Idle []) (closedRow openB)) 2 ≡ false) × (isUsable (tablesWith (slotB Idle []) (closedRow openB)) 3 ≡ false)
+unfolding areAll isUnpadded isNumber daysIn isDate isTime isDateAndTime timestampOf isTimestamp isAlphanumeric isIdentifier isAlgorithm table always nameOf valueOf inRow isEntryOf isStored padded trimmed isVacant attributeOf isKeyOf isRegisterSound isSameKey isClosed isOpen freeRegister closedRow filledRegister isZeroSlot inSession isNamed isFilledSlot isSlotSound isSameSlot freeSlot filledSlot isOwned isInSession isMarkSound areSound slotNamed areCounts isFilled isUsable
 vends-not = (refl, refl, refl, refl, refl)
+
+-- question 3 of the marks: open beside a PENDING or a LOADING slot, and no other number; not under an IDLE one, nor beside no card
+abbrev soundWith : SlotRow → RegisterRow → Bool
+soundWith slot row = areSound (slotRows (tablesWith slot row)) (registerRows (tablesWith slot row))
+
+abbrev marked : ℕ → RegisterRow
+marked n = record { card = inRow cardB; mark = n }
+
+pub marks-judged : (soundWith (slotB Pending clock) (marked 1) ≡ true) × (soundWith (slotB Loading []) (marked 1) ≡ true) × (soundWith (slotB Idle []) (marked 0) ≡ true)
+    × (soundWith (slotB Idle []) (marked 1) ≡ false) × (soundWith (slotB Loading []) (marked 2) ≡ false) × (soundWith (slotB Loading []) (marked 255) ≡ false)
+    × (soundWith (slotB Loading []) (record { card = replicate 256 0; mark = 1 }) ≡ false)
+unfolding areAll isUnpadded isNumber daysIn isDate isTime isDateAndTime timestampOf isTimestamp isAlphanumeric isIdentifier isAlgorithm table always nameOf valueOf inRow isEntryOf isStored padded trimmed isVacant attributeOf isKeyOf isRegisterSound isSameKey isClosed isOpen freeRegister closedRow filledRegister isZeroSlot inSession isNamed isFilledSlot isSlotSound isSameSlot freeSlot filledSlot isOwned isInSession isMarkSound areSound slotNamed areCounts isFilled isUsable
+marks-judged = (refl, refl, refl, refl, refl, refl, refl)

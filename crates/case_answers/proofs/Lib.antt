@@ -6,4 +6,3 @@ pub mod ComputedLists
 pub mod StoredCard
 pub mod Numbers
 pub mod Statuses
-pub mod Vending

@@ -1,5 +1,7 @@
 -- The run is what the engine's definition computes, call by call, and so the list of demand 3.
+use Prim.Native.Nat.{ℕ}
 use mathlib.Core.Path.{_≡_, refl, ap}
+use mathlib.Core.Bool.{Bool, true}
 use mathlib.Core.List.{List, [], _∷_, _++_, map}
 use Rattle.check_crc.specs.Crc.{crcBit, crcEight, crcByte}
 use Rattle.check_digits.specs.Hex.{hexDigit}
@@ -23,20 +25,22 @@ use Rattle.card_stored.specs.Stored.{defaultCard, storedValue, storedCard, inRo
 use Rattle.record_identities.specs.Identities.{identityInForm}
 use Rattle.record_types.specs.KeyRecords.{parsesPublicKey, publicKeyInForm, parsesResponse, responseInForm, keyInForm}
 use Rattle.row_types.specs.Lists.{padded, trimmed}
-use Rattle.row_types.specs.Registers.{isVacant, attributeOf, isKeyOf, isUnder, isRegisterSound, isSameKey, freeRegister, filledRegister, withoutSlot}
-use Rattle.row_types.specs.Slots.{isZeroSlot, isNamed, isFilledSlot, isSlotSound, isSameSlot, freeSlot, filledSlot, resetSlot}
-use Rattle.row_types.specs.Sound.{isOwned, areSound}
+use Rattle.row_types.specs.Registers.{isVacant, attributeOf, isKeyOf, isUnder, isRegisterSound, isSameKey, isClosed, isOpen, freeRegister, filledRegister, withoutSlot, closedRow, closedUnder}
+use Rattle.row_types.specs.Slots.{isZeroSlot, inSession, isNamed, isFilledSlot, isSlotSound, isSameSlot, freeSlot, filledSlot, resetSlot}
+use Rattle.row_types.specs.Sound.{isOwned, isInSession, isMarkSound, areSound}
 use Rattle.row_types.specs.Supplements.{isIdentityRight, isLoadRequestRight, isWellFormed}
 use Rattle.text_decimal_writer.specs.Digits.{decDigits, decimalBytes}
 use Rattle.engine.specs.Requests.{areFieldsOf, recordIn, slotIn}
 use Rattle.engine.specs.Questions.{sessionPlace, storePlace, slotNamed, areCounts, isFilled, questions}
 use Rattle.engine.specs.Answers.{slotsPending, slotsWithout, loadedCard, cardPlace, answerOf}
+use Rattle.engine.specs.Usable.{isUsable}
 use Rattle.engine.specs.Words.{slotIs, registerIs, isAccepted, emptyRows}
 use Rattle.engine.specs.Answers as answers
 use Rattle.engine.specs.Words.{Lent, rowsAfter, itemAt}
 use Rattle.history.specs.History.{trace}
 use Rattle.history.specs.Model.{Item}
 use Rattle.case_run.specs.Run.{Stage, centreA, centreB, deletions, stages}
+use Rattle.case_run.specs.Refresh.{atRest, Vending, refresh}
 
 -- each stage follows from the rows before it
 abbrev pub Follows : Lent → List Stage → Type 0
@@ -53,16 +57,30 @@ both t [] hs f k = k
 both t (g ∷ gs) hs f k = (f .0, f .1, both (g .after) gs hs (f .2) k)
 
 first-centre : Follows (emptyRows 2 2) centreA
-unfolding crcBit crcEight crcByte hexDigit sumDigits endsInSum isAlphanumeric isMark areAll isIdentifier isUnpadded isNumber isLeap daysIn isDate isTime isDateAndTime timestampOf dateTimeOf isTimestamp isDateTime numberOf isOctets typed valuesOf valueAt nextAt contentBytes endsInReturn isWhole isChecked textOf headerOf payloadOf ending framed requestBytes answered headers commandOf replyBytes statusOf fieldsOf bodyOf field isRecord isAlgorithm table always nameOf valueOf valueOr entryBytes fits isCard isMet isIncoming defaultCard storedValue storedCard inRow isEntryOf isStored identityInForm parsesPublicKey publicKeyInForm parsesResponse responseInForm keyInForm padded trimmed isVacant attributeOf isKeyOf isUnder isRegisterSound isSameKey freeRegister filledRegister withoutSlot isZeroSlot isNamed isFilledSlot isSlotSound isSameSlot freeSlot filledSlot resetSlot isOwned areSound isIdentityRight isLoadRequestRight isWellFormed decDigits decimalBytes areFieldsOf recordIn slotIn sessionPlace storePlace slotNamed areCounts isFilled questions slotsPending slotsWithout loadedCard cardPlace answers.refused answers.answered answerOf slotIs registerIs isAccepted emptyRows
-first-centre = (refl, refl, (refl, refl, (refl, refl, (refl, refl, (refl, refl, tt)))))
+unfolding crcBit crcEight crcByte hexDigit sumDigits endsInSum isAlphanumeric isMark areAll isIdentifier isUnpadded isNumber isLeap daysIn isDate isTime isDateAndTime timestampOf dateTimeOf isTimestamp isDateTime numberOf isOctets typed valuesOf valueAt nextAt contentBytes endsInReturn isWhole isChecked textOf headerOf payloadOf ending framed requestBytes answered headers commandOf replyBytes statusOf fieldsOf bodyOf field isRecord isAlgorithm table always nameOf valueOf valueOr entryBytes fits isCard isMet isIncoming defaultCard storedValue storedCard inRow isEntryOf isStored identityInForm parsesPublicKey publicKeyInForm parsesResponse responseInForm keyInForm padded trimmed isVacant attributeOf isKeyOf isUnder isRegisterSound isSameKey isClosed isOpen freeRegister filledRegister withoutSlot closedRow closedUnder isZeroSlot inSession isNamed isFilledSlot isSlotSound isSameSlot freeSlot filledSlot resetSlot isOwned isInSession isMarkSound areSound isIdentityRight isLoadRequestRight isWellFormed decDigits decimalBytes areFieldsOf recordIn slotIn sessionPlace storePlace slotNamed areCounts isFilled questions slotsPending slotsWithout loadedCard cardPlace answers.refused answers.answered answerOf slotIs registerIs isAccepted emptyRows
+first-centre = (refl, refl, (refl, refl, (refl, refl, (refl, refl, (refl, refl, (refl, refl, tt))))))
 
 second-centre : Follows (rowsLeft (emptyRows 2 2) centreA) centreB
-unfolding crcBit crcEight crcByte hexDigit sumDigits endsInSum isAlphanumeric isMark areAll isIdentifier isUnpadded isNumber isLeap daysIn isDate isTime isDateAndTime timestampOf dateTimeOf isTimestamp isDateTime numberOf isOctets typed valuesOf valueAt nextAt contentBytes endsInReturn isWhole isChecked textOf headerOf payloadOf ending framed requestBytes answered headers commandOf replyBytes statusOf fieldsOf bodyOf field isRecord isAlgorithm table always nameOf valueOf valueOr entryBytes fits isCard isMet isIncoming defaultCard storedValue storedCard inRow isEntryOf isStored identityInForm parsesPublicKey publicKeyInForm parsesResponse responseInForm keyInForm padded trimmed isVacant attributeOf isKeyOf isUnder isRegisterSound isSameKey freeRegister filledRegister withoutSlot isZeroSlot isNamed isFilledSlot isSlotSound isSameSlot freeSlot filledSlot resetSlot isOwned areSound isIdentityRight isLoadRequestRight isWellFormed decDigits decimalBytes areFieldsOf recordIn slotIn sessionPlace storePlace slotNamed areCounts isFilled questions slotsPending slotsWithout loadedCard cardPlace answers.refused answers.answered answerOf slotIs registerIs isAccepted emptyRows
-second-centre = (refl, refl, (refl, refl, (refl, refl, tt)))
+unfolding crcBit crcEight crcByte hexDigit sumDigits endsInSum isAlphanumeric isMark areAll isIdentifier isUnpadded isNumber isLeap daysIn isDate isTime isDateAndTime timestampOf dateTimeOf isTimestamp isDateTime numberOf isOctets typed valuesOf valueAt nextAt contentBytes endsInReturn isWhole isChecked textOf headerOf payloadOf ending framed requestBytes answered headers commandOf replyBytes statusOf fieldsOf bodyOf field isRecord isAlgorithm table always nameOf valueOf valueOr entryBytes fits isCard isMet isIncoming defaultCard storedValue storedCard inRow isEntryOf isStored identityInForm parsesPublicKey publicKeyInForm parsesResponse responseInForm keyInForm padded trimmed isVacant attributeOf isKeyOf isUnder isRegisterSound isSameKey isClosed isOpen freeRegister filledRegister withoutSlot closedRow closedUnder isZeroSlot inSession isNamed isFilledSlot isSlotSound isSameSlot freeSlot filledSlot resetSlot isOwned isInSession isMarkSound areSound isIdentityRight isLoadRequestRight isWellFormed decDigits decimalBytes areFieldsOf recordIn slotIn sessionPlace storePlace slotNamed areCounts isFilled questions slotsPending slotsWithout loadedCard cardPlace answers.refused answers.answered answerOf slotIs registerIs isAccepted emptyRows
+second-centre = (refl, refl, (refl, refl, (refl, refl, (refl, refl, tt))))
 
 ends : Follows (rowsLeft (rowsLeft (emptyRows 2 2) centreA) centreB) deletions
-unfolding crcBit crcEight crcByte hexDigit sumDigits endsInSum isAlphanumeric isMark areAll isIdentifier isUnpadded isNumber isLeap daysIn isDate isTime isDateAndTime timestampOf dateTimeOf isTimestamp isDateTime numberOf isOctets typed valuesOf valueAt nextAt contentBytes endsInReturn isWhole isChecked textOf headerOf payloadOf ending framed requestBytes answered headers commandOf replyBytes statusOf fieldsOf bodyOf field isRecord isAlgorithm table always nameOf valueOf valueOr entryBytes fits isCard isMet isIncoming defaultCard storedValue storedCard inRow isEntryOf isStored identityInForm parsesPublicKey publicKeyInForm parsesResponse responseInForm keyInForm padded trimmed isVacant attributeOf isKeyOf isUnder isRegisterSound isSameKey freeRegister filledRegister withoutSlot isZeroSlot isNamed isFilledSlot isSlotSound isSameSlot freeSlot filledSlot resetSlot isOwned areSound isIdentityRight isLoadRequestRight isWellFormed decDigits decimalBytes areFieldsOf recordIn slotIn sessionPlace storePlace slotNamed areCounts isFilled questions slotsPending slotsWithout loadedCard cardPlace answers.refused answers.answered answerOf slotIs registerIs isAccepted emptyRows
+unfolding crcBit crcEight crcByte hexDigit sumDigits endsInSum isAlphanumeric isMark areAll isIdentifier isUnpadded isNumber isLeap daysIn isDate isTime isDateAndTime timestampOf dateTimeOf isTimestamp isDateTime numberOf isOctets typed valuesOf valueAt nextAt contentBytes endsInReturn isWhole isChecked textOf headerOf payloadOf ending framed requestBytes answered headers commandOf replyBytes statusOf fieldsOf bodyOf field isRecord isAlgorithm table always nameOf valueOf valueOr entryBytes fits isCard isMet isIncoming defaultCard storedValue storedCard inRow isEntryOf isStored identityInForm parsesPublicKey publicKeyInForm parsesResponse responseInForm keyInForm padded trimmed isVacant attributeOf isKeyOf isUnder isRegisterSound isSameKey isClosed isOpen freeRegister filledRegister withoutSlot closedRow closedUnder isZeroSlot inSession isNamed isFilledSlot isSlotSound isSameSlot freeSlot filledSlot resetSlot isOwned isInSession isMarkSound areSound isIdentityRight isLoadRequestRight isWellFormed decDigits decimalBytes areFieldsOf recordIn slotIn sessionPlace storePlace slotNamed areCounts isFilled questions slotsPending slotsWithout loadedCard cardPlace answers.refused answers.answered answerOf slotIs registerIs isAccepted emptyRows
 ends = (refl, refl, (refl, refl, (refl, refl, (refl, refl, tt))))
+
+-- THE REFRESH: each call follows, and which of the two keys may vend after it
+abbrev lentUsable : Lent → ℕ → Bool
+lentUsable t n = isUsable (record { slots = t .slots; registers = t .registers; «slot_count» = 2; «register_count» = 2 }) n
+
+abbrev pub Refreshes : Lent → List Vending → Type 0
+Refreshes t [] = Unit {0}
+Refreshes t (v ∷ vs) =
+    (itemAt t (v .stage .call) ≡ v .stage .item) × (rowsAfter t (v .stage .call) ≡ v .stage .after) × (lentUsable (v .stage .after) 1 ≡ v .first) × (lentUsable (v .stage .after) 2 ≡ v .second)
+    × Refreshes (v .stage .after) vs
+
+pub refreshes : (lentUsable atRest 1 ≡ true) × (lentUsable atRest 2 ≡ true) × Refreshes atRest refresh
+unfolding crcBit crcEight crcByte hexDigit sumDigits endsInSum isAlphanumeric isMark areAll isIdentifier isUnpadded isNumber isLeap daysIn isDate isTime isDateAndTime timestampOf dateTimeOf isTimestamp isDateTime numberOf isOctets typed valuesOf valueAt nextAt contentBytes endsInReturn isWhole isChecked textOf headerOf payloadOf ending framed requestBytes answered headers commandOf replyBytes statusOf fieldsOf bodyOf field isRecord isAlgorithm table always nameOf valueOf valueOr entryBytes fits isCard isMet isIncoming defaultCard storedValue storedCard inRow isEntryOf isStored identityInForm parsesPublicKey publicKeyInForm parsesResponse responseInForm keyInForm padded trimmed isVacant attributeOf isKeyOf isUnder isRegisterSound isSameKey isClosed isOpen freeRegister filledRegister withoutSlot closedRow closedUnder isZeroSlot inSession isNamed isFilledSlot isSlotSound isSameSlot freeSlot filledSlot resetSlot isOwned isInSession isMarkSound areSound isIdentityRight isLoadRequestRight isWellFormed decDigits decimalBytes areFieldsOf recordIn slotIn sessionPlace storePlace slotNamed areCounts isFilled questions slotsPending slotsWithout loadedCard cardPlace answers.refused answers.answered answerOf slotIs registerIs isAccepted emptyRows isUsable
+refreshes = (refl, refl, (refl, refl, refl, refl, (refl, refl, refl, refl, (refl, refl, refl, refl, (refl, refl, refl, refl, tt)))))
 
 pub follows : Follows (emptyRows 2 2) stages
 follows =

@@ -1,5 +1,5 @@
 -- A run of all seven commands over two centres, A and B: the key that A loaded with a supply group name is reloaded by
--- B without one, stays where A is deleted, and goes with its register.
+-- B without one, stays open where A's session is closed, stays where A is deleted, and goes with its register.
 use Prim.Native.Nat.{ℕ}
 use Prim.Native.Char.{code}
 use mathlib.Core.List.{List, [], _∷_, _++_}
@@ -7,7 +7,7 @@ use lib.ListN.{replicate}
 use Rattle.byte_strings.specs.Texts.{text}
 use Rattle.card_stored.specs.Stored.{inRow}
 use Rattle.row_types.specs.Slots.{freeSlot, filledSlot}
-use Rattle.row_types.specs.Registers.{freeRegister, filledRegister}
+use Rattle.row_types.specs.Registers.{freeRegister, filledRegister, closedRow}
 use Rattle.row_types.specs.declared.SlotRow.{SlotRow}
 use Rattle.row_types.specs.declared.RegisterRow.{RegisterRow}
 use Rattle.row_types.specs.declared.SlotState.{SlotState}
@@ -133,43 +133,52 @@ pub record Stage : Type 0 where
 abbrev pub stage : Input → Item → Lent → Stage
 stage call item after = record { call = call; item = item; after = after }
 
--- the slots and the registers of the run
+-- the slots of the run
 abbrev pub slotA : SlotState → List ℕ → SlotRow
 slotA state tvp = filledSlot state a printA tvp
 
 abbrev pub slotB : SlotState → List ℕ → SlotRow
 slotB state tvp = filledSlot state b printB tvp
 
+-- open keys, and A's once it is closed
 abbrev pub keyA : RegisterRow
 keyA = filledRegister cardA
 
 abbrev pub keyB : RegisterRow
 keyB = filledRegister cardB
 
--- centre A loads a key; the load after SM?KF is refused
+abbrev pub closedA : RegisterRow
+closedA = closedRow keyA
+
+abbrev pub closedB : RegisterRow
+closedB = closedRow keyB
+
+-- centre A loads a key, and SM?KF closes it; the load after SM?KF is refused; SM?KC leaves it closed
 abbrev pub centreA : List Stage
 centreA =
     stage startA (kc a ⇒ done) (lent (slotA Pending clock) freeSlot freeRegister)
     ∷ stage responseA (kr a ⇒ done) (lent (slotA Loading []) freeSlot freeRegister)
     ∷ stage loadA (kl a group revision ⇒ loaded 1 (inRow cardA)) (lent (slotA Loading []) freeSlot keyA)
-    ∷ stage finishA (kf a ⇒ done) (lent (slotA Idle []) freeSlot keyA)
-    ∷ stage loadA (kl a group revision ⇒ refused) (lent (slotA Idle []) freeSlot keyA)
+    ∷ stage finishA (kf a ⇒ done) (lent (slotA Idle []) freeSlot closedA)
+    ∷ stage loadA (kl a group revision ⇒ refused) (lent (slotA Idle []) freeSlot closedA)
+    ∷ stage startA (kc a ⇒ done) (lent (slotA Pending clock) freeSlot closedA)
     ∷ []
 
--- centre B reloads it, and no supply group name is left
+-- centre B reloads it, and no supply group name is left; SM?KF of A leaves open what B reloaded
 abbrev pub centreB : List Stage
 centreB =
-    stage startB (kc b ⇒ done) (lent (slotA Idle []) (slotB Pending clock) keyA)
-    ∷ stage responseB (kr b ⇒ done) (lent (slotA Idle []) (slotB Loading []) keyA)
-    ∷ stage loadB (kl b group revision ⇒ loaded 1 (inRow cardB)) (lent (slotA Idle []) (slotB Loading []) keyB)
+    stage startB (kc b ⇒ done) (lent (slotA Pending clock) (slotB Pending clock) closedA)
+    ∷ stage responseB (kr b ⇒ done) (lent (slotA Pending clock) (slotB Loading []) closedA)
+    ∷ stage loadB (kl b group revision ⇒ loaded 1 (inRow cardB)) (lent (slotA Pending clock) (slotB Loading []) keyB)
+    ∷ stage finishA (kf a ⇒ done) (lent (slotA Idle []) (slotB Loading []) keyB)
     ∷ []
 
--- A is deleted and the key stays; the load after GL?RS is refused; the register is deleted
+-- A is deleted and the key stays, open; GL?RS closes it, and the load after it is refused; the register is deleted
 abbrev pub deletions : List Stage
 deletions =
     stage deleteA (kx a ⇒ done) (lent freeSlot (slotB Loading []) keyB)
-    ∷ stage resetAll (rs ⇒ done) (lent freeSlot (slotB Idle []) keyB)
-    ∷ stage loadB (kl b group revision ⇒ refused) (lent freeSlot (slotB Idle []) keyB)
+    ∷ stage resetAll (rs ⇒ done) (lent freeSlot (slotB Idle []) closedB)
+    ∷ stage loadB (kl b group revision ⇒ refused) (lent freeSlot (slotB Idle []) closedB)
     ∷ stage clear (kd 1 ⇒ done) (lent freeSlot (slotB Idle []) freeRegister)
     ∷ []
 

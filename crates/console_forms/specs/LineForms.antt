@@ -17,6 +17,10 @@ areTables r =
     ∷ isNumber 2 0 33 (rest r)  -- R from 0 to 33
     ∷ [])
 
+-- the second word is a number from 0 to 255: the state of a slot, the mark of a register
+unfoldable pub hasByte : List ℕ → Bool
+hasByte r = isNumber 3 0 255 (word (rest r))
+
 -- NAME FINGERPRINT TVP, two digits a byte
 unfoldable pub isSlotRow : List ℕ → Bool
 isSlotRow d =
@@ -31,14 +35,15 @@ unfoldable pub isSlot : List ℕ → Bool
 isSlot r =
     all (
     isNumber 1 1 8 (word r)  -- K from 1 to 8
-    ∷ isNumber 3 0 255 (word (rest r))  -- S from 0 to 255
+    ∷ hasByte r  -- S from 0 to 255
     ∷ isSlotRow (rest (rest r))
     ∷ [])
 
--- register K CARD, two digits a byte
+-- register K M CARD (document 02, N3), two digits a byte
 unfoldable pub isRegister : List ℕ → Bool
 isRegister r =
     all (
     isNumber 2 1 32 (word r)  -- K from 1 to 32
-    ∷ inForm (Hex 512) (rest r)  -- CARD: 256 bytes
+    ∷ hasByte r  -- M from 0 to 255
+    ∷ inForm (Hex 512) (rest (rest r))  -- CARD: 256 bytes
     ∷ [])

@@ -2,7 +2,7 @@
 // the lines that have more than one word there.
 use text_forms::Form;
 ghost use mathlib.Core.Path.{_≡_};
-ghost use Rattle.console_forms.specs.LineForms.{areTables, isSlotRow, isSlot, isRegister};
+ghost use Rattle.console_forms.specs.LineForms.{areTables, hasByte, isSlotRow, isSlot, isRegister};
 
 pub fn are_tables(rest: &[u8]) -> bool
     ensures { λ a. ⌜ a ≡ areTables (now (rest .entry)) ⌝ }
@@ -32,13 +32,20 @@ fn is_slot_row(digits: &[u8]) -> bool
     )
 }
 
+// Whether the second word is the number of a byte: the state of a slot, the mark of a register.
+fn has_byte(rest: &[u8]) -> bool
+    ensures { λ a. ⌜ a ≡ hasByte (now (rest .entry)) ⌝ }
+{
+    text_decimals::is_number(3, 0, 255, console_words::word(console_words::rest(rest)))
+}
+
 pub fn is_slot(rest: &[u8]) -> bool
     ensures { λ a. ⌜ a ≡ isSlot (now (rest .entry)) ⌝ }
 {
     if !text_decimals::is_number(1, 1, 8, console_words::word(rest)) {
         return false;
     }
-    if !text_decimals::is_number(3, 0, 255, console_words::word(console_words::rest(rest))) {
+    if !has_byte(rest) {
         return false;
     }
     is_slot_row(console_words::rest(console_words::rest(rest)))
@@ -50,5 +57,11 @@ pub fn is_register(rest: &[u8]) -> bool
     if !text_decimals::is_number(2, 1, 32, console_words::word(rest)) {
         return false;
     }
-    text_forms::in_form(Form::Hex(512), console_words::rest(rest))
+    if !has_byte(rest) {
+        return false;
+    }
+    text_forms::in_form(
+        Form::Hex(512),
+        console_words::rest(console_words::rest(rest)),
+    )
 }

@@ -1,10 +1,9 @@
 -- The cases of a line, each with what the code knows where it answers as premises.
 use mathlib.Core.Path.{_≡_, refl, sym, ap, _∙_}
-use mathlib.Core.Bool.{Bool, true, false, not, cond, _&&_}
+use mathlib.Core.Bool.{Bool, true, false, not, _&&_}
 use mathlib.Core.List.{List, [], _∷_}
 use Prim.Native.Nat.{ℕ, _-_, _≤_, _<_}
 use native.Mathlib.Omega.{arith}
-use lib.Dec.{leb}
 use lib.ListN.{length, getD}
 use types.Run.{OneOf, miss}
 use denote.Enum.Declared.{tagOf}
@@ -14,9 +13,11 @@ use Rattle.byte_strings.specs.Strings.{sameBytes}
 use Rattle.byte_strings.proofs.Flags.{and-first, and-second}
 use Rattle.text_decimals.specs.Decimals.{decimal, isNumber}
 use Rattle.text_decimals.proofs.NumberLaws.{number-short, number-most, number-least}
+use Rattle.text_forms.specs.Forms.{inForm}
+use Rattle.text_forms.specs.declared.Form.the-variants.{Hex}
 use Rattle.field_values.specs.Values.{isOctets}
 use Rattle.console_words.specs.Words.{word, rest, hasRest}
-use Rattle.console_forms.specs.LineForms.{areTables, isSlotRow, isSlot, isRegister}
+use Rattle.console_forms.specs.LineForms.{areTables, hasByte, isSlotRow, isSlot, isRegister}
 use Rattle.console_verbs.specs.Verbs.{verbOf}
 use Rattle.console_verbs.specs.declared.Part.{Part}
 use Rattle.console_verbs.specs.declared.Verb.{Verb}
@@ -139,6 +140,33 @@ module _ (r : List ℕ) (t : Bool) (p : t ≡ sameBytes r (text "yes")) where
 
 pub ruleset passedCases = (says-yes, says-no, says-neither)
 
+-- slot and register alike: the number of the row, counted from 1 and of at most two digits, and the number of a byte
+pub record Numbered (r : List ℕ) : Type 0 where
+  pub digits : ℕ
+  pub high : ℕ
+  pub few : digits ≤ 2
+  pub row-number : isNumber digits 1 high (word r) ≡ true
+  pub second-byte : hasByte r ≡ true
+
+module _ (r : List ℕ) (l : Numbered r) where
+  module _ (v : List ℕ) (e : v ≡ word r) where
+    pub row-short : length v ≤ 10
+    row-short = short (l .digits) 1 (l .high) v (word r) e (l .row-number) (omega (arith, l .few))
+
+    pub from-one : (n : ℕ) → n ≡ decimal v → 1 ≤ n
+    from-one n q = large (l .digits) 1 (l .high) v (word r) e (l .row-number) n q
+
+  module _ (w v : List ℕ) (e : w ≡ rest r) (f : v ≡ word w) where
+    pub byte-short : length v ≤ 10
+    unfolding hasByte
+    byte-short = short 3 0 255 v (word (rest r)) (f ∙ ap word e) (l .second-byte) (omega arith)
+
+    pub byte-small : (n : ℕ) → n ≡ decimal v → n < 256
+    unfolding hasByte
+    byte-small n q = omega (arith, small 3 0 255 v (word (rest r)) (f ∙ ap word e) (l .second-byte) n q)
+
+pub ruleset rowNumbers = (row-short, from-one, byte-short, byte-small)
+
 -- slot
 module _ (r : List ℕ) (t : Bool) (p : t ≡ isSlot r) where
   pub no-slot : not t ≡ true → Other ≡ slotLine r
@@ -146,38 +174,17 @@ module _ (r : List ℕ) (t : Bool) (p : t ≡ isSlot r) where
   no-slot o = rw (← p, not-true t o)
 
   module _ (o : not t ≡ false) where
-    numbers : (isNumber 1 1 8 (word r) && (isNumber 3 0 255 (word (rest r)) && isSlotRow (rest (rest r)))) ≡ true
+    pub slot-numbered : Numbered r
     unfolding isSlot
-    numbers = sym p ∙ not-false t o
+    slot-numbered =
+        let h : (isNumber 1 1 8 (word r) && (hasByte r && isSlotRow (rest (rest r)))) ≡ true = sym p ∙ not-false t o in
+        record { digits = 1; high = 8; few = omega arith; row-number = and-first (isNumber 1 1 8 (word r)) _ h; second-byte = and-first (hasByte r) _ (and-second (isNumber 1 1 8 (word r)) _ h) }
 
-    state-number : isNumber 3 0 255 (word (rest r)) ≡ true
-    state-number = and-first (isNumber 3 0 255 (word (rest r))) (isSlotRow (rest (rest r))) (and-second (isNumber 1 1 8 (word r)) _ numbers)
+    pub a-slot : (u v w : List ℕ) → u ≡ word r → w ≡ rest r → v ≡ word w → (m n : ℕ) → m ≡ decimal u → n ≡ decimal v → Slot (m - 1) n ≡ slotLine r
+    unfolding slotLine
+    a-slot u v w e f g m n q s = rw (← p, not-false t o, q, s, e, g, f)
 
-    row-number : isNumber 1 1 8 (word r) ≡ true
-    row-number = and-first (isNumber 1 1 8 (word r)) (isNumber 3 0 255 (word (rest r)) && isSlotRow (rest (rest r))) numbers
-
-    module _ (v : List ℕ) (e : v ≡ word r) where
-      pub row-short : length v ≤ 10
-      row-short = short 1 1 8 v (word r) e row-number (omega arith)
-
-      pub from-one : (n : ℕ) → n ≡ decimal v → 1 ≤ n
-      from-one n q = large 1 1 8 v (word r) e row-number n q
-
-    module _ (w v : List ℕ) (e : w ≡ rest r) (f : v ≡ word w) where
-      second : v ≡ word (rest r)
-      second = f ∙ ap word e
-
-      pub state-short : length v ≤ 10
-      state-short = short 3 0 255 v (word (rest r)) second state-number (omega arith)
-
-      pub state-small : (n : ℕ) → n ≡ decimal v → n < 256
-      state-small n q = omega (arith, small 3 0 255 v (word (rest r)) second state-number n q)
-
-      pub a-slot : (u : List ℕ) → u ≡ word r → (m n : ℕ) → m ≡ decimal u → n ≡ decimal v → Slot (m - 1) n ≡ slotLine r
-      unfolding slotLine
-      a-slot u g m n q s = rw (← p, not-false t o, q, s, g, second)
-
-pub ruleset slotCases = (no-slot, row-short, from-one, state-short, state-small, a-slot)
+pub ruleset slotCases = (no-slot, slot-numbered, rowNumbers, a-slot)
 
 -- register
 module _ (r : List ℕ) (t : Bool) (p : t ≡ isRegister r) where
@@ -185,20 +192,18 @@ module _ (r : List ℕ) (t : Bool) (p : t ≡ isRegister r) where
   unfolding registerLine
   no-register o = rw (← p, not-true t o)
 
-  module _ (o : not t ≡ false) (v : List ℕ) (e : v ≡ word r) where
-    pub register-short : length v ≤ 10
+  module _ (o : not t ≡ false) where
+    pub register-numbered : Numbered r
     unfolding isRegister
-    register-short = short 2 1 32 v (word r) e (and-first (isNumber 2 1 32 (word r)) _ (sym p ∙ not-false t o)) (omega arith)
+    register-numbered =
+        let h : (isNumber 2 1 32 (word r) && (hasByte r && inForm (Hex 512) (rest (rest r)))) ≡ true = sym p ∙ not-false t o in
+        record { digits = 2; high = 32; few = omega arith; row-number = and-first (isNumber 2 1 32 (word r)) _ h; second-byte = and-first (hasByte r) _ (and-second (isNumber 2 1 32 (word r)) _ h) }
 
-    pub register-from-one : (n : ℕ) → n ≡ decimal v → 1 ≤ n
-    unfolding isRegister
-    register-from-one n q = large 2 1 32 v (word r) e (and-first (isNumber 2 1 32 (word r)) _ (sym p ∙ not-false t o)) n q
-
-    pub a-register : (m : ℕ) → m ≡ decimal v → Register (m - 1) ≡ registerLine r
+    pub a-register : (u v w : List ℕ) → u ≡ word r → w ≡ rest r → v ≡ word w → (m n : ℕ) → m ≡ decimal u → n ≡ decimal v → Register (m - 1) n ≡ registerLine r
     unfolding registerLine
-    a-register m q = rw (← p, not-false t o, q, e)
+    a-register u v w e f g m n q s = rw (← p, not-false t o, q, s, e, g, f)
 
-pub ruleset registerCases = (no-register, register-short, register-from-one, a-register)
+pub ruleset registerCases = (no-register, register-numbered, rowNumbers, a-register)
 
 -- the verbs that no line has alone, and those that are never followed by a space
 abbrev never-alone : List ℕ

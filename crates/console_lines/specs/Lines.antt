@@ -48,9 +48,9 @@ rawLine r = cond (all (leb (length r) 4092 ∷ isOctets r ∷ [])) Raw Other
 unfoldable pub slotLine : List ℕ → Line
 slotLine r = cond (isSlot r) (Slot (decimal (word r) - 1) (decimal (word (rest r)))) Other
 
--- register K CARD
+-- register K M CARD (document 02, N3)
 unfoldable pub registerLine : List ℕ → Line
-registerLine r = cond (isRegister r) (Register (decimal (word r) - 1)) Other
+registerLine r = cond (isRegister r) (Register (decimal (word r) - 1) (decimal (word (rest r)))) Other
 
 -- usable K: from 0 to 2147483647
 unfoldable pub usableLine : List ℕ → Line

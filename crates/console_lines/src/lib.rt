@@ -22,7 +22,10 @@ pub enum Line {
         row: usize,
         state: u8,
     },
-    Register(usize),
+    Register {
+        row: usize,
+        mark: u8,
+    },
     Rows,
     Usable(usize),
     Show,
@@ -110,7 +113,10 @@ fn register_line(r: &[u8]) -> Line
     if !console_forms::is_register(r) {
         return Line::Other;
     }
-    Line::Register(text_decimals::decimal(console_words::word(r)) as usize - 1)
+    Line::Register {
+        row: text_decimals::decimal(console_words::word(r)) as usize - 1,
+        mark: text_decimals::decimal(console_words::word(console_words::rest(r))) as u8,
+    }
 }
 
 fn usable_line(r: &[u8]) -> Line

@@ -6,9 +6,9 @@ use Rattle.byte_strings.specs.Texts.{text}
 use Rattle.text_decimal_writer.specs.Digits.{decimalBytes}
 use Rattle.console_octets.specs.Octets.{digitsOf}
 use Rattle.row_types.specs.Slots.{isZeroSlot}
-use Rattle.row_types.specs.Registers.{isVacant}
 use Rattle.row_types.specs.declared.SlotRow.{SlotRow}
 use Rattle.row_types.specs.declared.RegisterRow.{RegisterRow}
+use Rattle.register_rows.specs.ZeroRegisters.{isZeroRegister}
 use Rattle.console_prints.specs.Prints.{lineBytes}
 
 -- slot K S NAME FINGERPRINT TVP; the place k counts from 0, K from 1
@@ -24,8 +24,13 @@ slotLine k r =
     ∷ digitsOf (r .tvp)
     ∷ []))
 
--- register K CARD
+-- register K M CARD (document 02, N3)
 unfoldable pub registerLine : ℕ → RegisterRow → List ℕ
 registerLine k r =
-    cond (isVacant r) []
-    (lineBytes (text "register" ∷ decimalBytes (k + 1) ∷ digitsOf (r .card) ∷ []))
+    cond (isZeroRegister r) []
+    (lineBytes (
+    text "register"
+    ∷ decimalBytes (k + 1)
+    ∷ decimalBytes (r .mark)
+    ∷ digitsOf (r .card)
+    ∷ []))

@@ -47,16 +47,17 @@ pub fn put_slot(dst: &mut [u8], at: usize, index: usize, row: SlotRow) -> usize
     put_fields(dst, c, row)
 }
 
-// One register row in the form of a line, of a free one nothing; `index` counts from 0.
+// One register row in the form of a line, of a row that is all zero nothing; `index` counts from 0.
 pub fn put_register(dst: &mut [u8], at: usize, index: usize, row: RegisterRow) -> usize
-    requires { ⌜ (index < 32) × (at + 533 ≤ length (now dst)) ⌝ }
+    requires { ⌜ (index < 32) × (at + 544 ≤ length (now dst)) ⌝ }
     ensures { λ r. ⌜ Writes dst at (registerLine index row) r ⌝ }
-    ensures short { λ r. ⌜ r ≤ at + 533 ⌝ }
+    ensures short { λ r. ⌜ r ≤ at + 544 ⌝ }
 {
-    if register_rows::is_vacant(row) {
+    if register_rows::is_zero_register(row) {
         return at;
     }
     let a = console_prints::put_word(dst, at, b"register");
     let b = console_prints::put_number(dst, a, index as u32 + 1);
-    put_digits(dst, b, &row.card, b'\n')
+    let c = console_prints::put_number(dst, b, row.mark as u32);
+    put_digits(dst, c, &row.card, b'\n')
 }

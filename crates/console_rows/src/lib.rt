@@ -23,9 +23,9 @@ fn put_slots(dst: &mut [u8], slots: [SlotRow; 8]) -> usize
 }
 
 fn put_registers(dst: &mut [u8], at: usize, registers: [RegisterRow; 32]) -> usize
-    requires { ⌜ at + 17056 ≤ length (now dst) ⌝ }
+    requires { ⌜ at + 17408 ≤ length (now dst) ⌝ }
     ensures { λ r. ⌜ Writes dst at (registerLines registers) r ⌝ }
-    ensures short { λ r. ⌜ r ≤ at + 17056 ⌝ }
+    ensures short { λ r. ⌜ r ≤ at + 17408 ⌝ }
 {
     let mut end = at;
     let mut i = 0;
@@ -39,7 +39,7 @@ fn put_registers(dst: &mut [u8], at: usize, registers: [RegisterRow; 32]) -> usi
 
 // Each row that is not all zero, in the form of the line that sets it.
 pub fn put_rows(dst: &mut [u8], tables: Tables) -> usize
-    requires { ⌜ 18496 ≤ length (now dst) ⌝ }
+    requires { ⌜ 18848 ≤ length (now dst) ⌝ }
     ensures { λ r. ⌜ Writes dst 0 (rowLines tables) r ⌝ }
     ensures fits { λ r. ⌜ r ≤ length (now (dst .entry)) ⌝ }
 {

@@ -25,9 +25,9 @@ fn put_slots(dst: &mut [u8], at: usize, slots: [SlotRow; 8]) -> usize
 }
 
 fn put_registers(dst: &mut [u8], at: usize, t: Tables, registers: [RegisterRow; 32]) -> usize
-    requires { ⌜ at + 9280 ≤ length (now dst) ⌝ }
+    requires { ⌜ at + 9696 ≤ length (now dst) ⌝ }
     ensures { λ r. ⌜ Writes dst at (inTurn (registerIn t) 0 registers) r ⌝ }
-    ensures short { λ r. ⌜ r ≤ at + 9280 ⌝ }
+    ensures short { λ r. ⌜ r ≤ at + 9696 ⌝ }
 {
     let mut end = at;
     let mut i = 0;
@@ -42,7 +42,7 @@ fn put_registers(dst: &mut [u8], at: usize, t: Tables, registers: [RegisterRow; 
 
 // The counts, and each row that is not all zero.
 pub fn put_show(dst: &mut [u8], tables: Tables) -> usize
-    requires { ⌜ 10200 ≤ length (now dst) ⌝ }
+    requires { ⌜ 10616 ≤ length (now dst) ⌝ }
     ensures { λ r. ⌜ Writes dst 0 (shownRows tables) r ⌝ }
     ensures fits { λ r. ⌜ r ≤ length (now (dst .entry)) ⌝ }
 {

@@ -2,14 +2,16 @@
 -- is shown.
 use Prim.Native.Nat.{ℕ, _+_}
 use mathlib.Core.Bool.{Bool, cond}
-use mathlib.Core.List.{List, [], _∷_}
+use mathlib.Core.List.{List, [], _∷_, _++_}
+use lib.Dec.{eqb}
 use Rattle.byte_strings.specs.Texts.{text}
 use Rattle.text_decimal_writer.specs.Digits.{decimalBytes, longBytes}
 use Rattle.row_types.specs.Slots.{isZeroSlot}
-use Rattle.row_types.specs.Registers.{isVacant}
+use Rattle.row_types.specs.Registers.{closedMark, openMark}
 use Rattle.row_types.specs.declared.SlotRow.{SlotRow}
 use Rattle.row_types.specs.declared.RegisterRow.{RegisterRow}
 use Rattle.row_types.specs.declared.Tables.{Tables}
+use Rattle.register_rows.specs.ZeroRegisters.{isZeroRegister}
 use Rattle.console_prints.specs.Prints.{lineBytes}
 use Rattle.console_states.specs.States.{stateName}
 use Rattle.console_text.specs.Texts.{shown}
@@ -31,11 +33,24 @@ slotShown k r =
     ∷ shown (r .tvp)
     ∷ []))
 
--- register K usable CARD, or register K unusable CARD
+-- closed, open, or mark N for the number N of no mark (document 02, N3)
+unfoldable pub markShown : ℕ → List ℕ
+markShown n =
+    cond (eqb n closedMark) (text "closed")
+    (cond (eqb n openMark) (text "open")
+    (text "mark " ++ decimalBytes n))
+
+-- register K MARK USABLE CARD
 unfoldable pub registerShown : Bool → ℕ → RegisterRow → List ℕ
 registerShown b k r =
-    cond (isVacant r) []
-    (lineBytes (text "register" ∷ decimalBytes (k + 1) ∷ usableShown b ∷ shown (r .card) ∷ []))
+    cond (isZeroRegister r) []
+    (lineBytes (
+    text "register"
+    ∷ decimalBytes (k + 1)
+    ∷ markShown (r .mark)
+    ∷ usableShown b
+    ∷ shown (r .card)
+    ∷ []))
 
 -- S slot rows, R register rows
 unfoldable pub countsShown : Tables → List ℕ

@@ -9,7 +9,8 @@ ghost use Rattle.byte_strings.specs.Texts.{text};
 ghost use Rattle.byte_strings.specs.Wrote.{Writes};
 ghost use Rattle.console_prints.specs.Prints.{lineBytes};
 ghost use Rattle.console_text.specs.Texts.{shown};
-ghost use Rattle.console_shown_rows.specs.OneRow.{usableShown, slotShown, registerShown, countsShown};
+ghost use Rattle.console_shown_rows.specs.OneRow.{usableShown, slotShown, markShown, registerShown};
+ghost use Rattle.console_shown_rows.specs.OneRow.{countsShown};
 
 // The last three words of a slot row's line.
 fn put_fields(dst: &mut [u8], at: usize, row: SlotRow) -> usize
@@ -49,19 +50,46 @@ fn put_usable(dst: &mut [u8], at: usize, yes: bool) -> usize
     console_prints::put_word(dst, at, b"unusable")
 }
 
-// One register row, of a free one nothing; `index` counts from 0, and `yes` is whether its key may vend.
-pub fn put_register(dst: &mut [u8], at: usize, index: usize, yes: bool, row: RegisterRow) -> usize
-    requires { ⌜ (index < 32) × (at + 290 ≤ length (now dst)) ⌝ }
-    ensures { λ r. ⌜ Writes dst at (registerShown yes index row) r ⌝ }
-    ensures short { λ r. ⌜ r ≤ at + 290 ⌝ }
+// Writes the name of a mark, or the number of no mark, and a space.
+fn put_mark(dst: &mut [u8], at: usize, mark: u8) -> usize
+    requires { ⌜ at + 16 ≤ length (now dst) ⌝ }
+    ensures { λ r. ⌜ Writes dst at (markShown mark ++ text " ") r ⌝ }
+    ensures short { λ r. ⌜ r ≤ at + 16 ⌝ }
 {
-    if register_rows::is_vacant(row) {
+    if mark == 0 {
+        return console_prints::put_word(dst, at, b"closed");
+    }
+    if mark == 1 {
+        return console_prints::put_word(dst, at, b"open");
+    }
+    let number = console_prints::put_word(dst, at, b"mark");
+    console_prints::put_number(dst, number, mark as u32)
+}
+
+// The last three words of a register row's line.
+fn put_key(dst: &mut [u8], at: usize, yes: bool, row: RegisterRow) -> usize
+    requires { ⌜ at + 283 ≤ length (now dst) ⌝ }
+    ensures { λ r. ⌜ Writes dst at
+        (lineBytes (markShown (row .mark) ∷ usableShown yes ∷ shown (row .card) ∷ [])) r ⌝ }
+    ensures short { λ r. ⌜ r ≤ at + 283 ⌝ }
+{
+    let a = put_mark(dst, at, row.mark);
+    let b = put_usable(dst, a, yes);
+    console_text::put_shown(dst, b, &row.card, b'\n')
+}
+
+// One register row, of a row that is all zero nothing; `index` counts from 0, and `yes` is whether its key may vend.
+pub fn put_register(dst: &mut [u8], at: usize, index: usize, yes: bool, row: RegisterRow) -> usize
+    requires { ⌜ (index < 32) × (at + 303 ≤ length (now dst)) ⌝ }
+    ensures { λ r. ⌜ Writes dst at (registerShown yes index row) r ⌝ }
+    ensures short { λ r. ⌜ r ≤ at + 303 ⌝ }
+{
+    if register_rows::is_zero_register(row) {
         return at;
     }
     let a = console_prints::put_word(dst, at, b"register");
     let b = console_prints::put_number(dst, a, index as u32 + 1);
-    let c = put_usable(dst, b, yes);
-    console_text::put_shown(dst, c, &row.card, b'\n')
+    put_key(dst, b, yes, row)
 }
 
 pub fn put_counts(dst: &mut [u8], tables: Tables) -> usize

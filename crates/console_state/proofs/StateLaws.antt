@@ -28,8 +28,8 @@ module _ (t : Tables) (l : Line) where
   pub slot-row : (k s : ℕ) → l ≡ line.Slot k s → ltb k (t .«slot_count») ≡ hasRow t l
   slot-row k s e = rw e
 
-  pub register-row : (k : ℕ) → l ≡ line.Register k → ltb k (t .«register_count») ≡ hasRow t l
-  register-row k e = rw e
+  pub register-row : (k m : ℕ) → l ≡ line.Register k m → ltb k (t .«register_count») ≡ hasRow t l
+  register-row k m e = rw e
 
 pub no-row : (t : Tables) (l : Line) → OneOf no-rows (tagOf the-type l) → true ≡ hasRow t l
 no-row t line.Nothing o = refl
@@ -40,7 +40,7 @@ no-row t (line.Passed n) o = refl
 no-row t line.Send o = refl
 no-row t line.Raw o = refl
 no-row t (line.Slot k s) o = absurd (miss no-rows 7 tt o)
-no-row t (line.Register k) o = absurd (miss no-rows 8 tt o)
+no-row t (line.Register k m) o = absurd (miss no-rows 8 tt o)
 no-row t line.Rows o = refl
 no-row t (line.Usable k) o = refl
 no-row t line.Show o = refl
@@ -78,8 +78,8 @@ module _ (c d : Console) (l : Line) (r : List ℕ) where
   pub slot-set : (k s : ℕ) → l ≡ line.Slot k s → (u v : List ℕ) → u ≡ rest r → v ≡ rest u → (w : SlotRow) → w ≡ slotOf s v → (t : Tables) → t ≡ withSlot k w (c .tables) → d ≡ withTables t c → d ≡ setBy c l r
   slot-set k s e u v f g w h t p q = rw (q, p, h, g, f, e)
 
-  pub register-set : (k : ℕ) → l ≡ line.Register k → (v : List ℕ) → v ≡ rest r → (w : RegisterRow) → w ≡ registerOf v → (t : Tables) → t ≡ withRegister k w (c .tables) → d ≡ withTables t c → d ≡ setBy c l r
-  register-set k e v f w h t p q = rw (q, p, h, f, e)
+  pub register-set : (k m : ℕ) → l ≡ line.Register k m → (u v : List ℕ) → u ≡ rest r → v ≡ rest u → (w : RegisterRow) → w ≡ registerOf m v → (t : Tables) → t ≡ withRegister k w (c .tables) → d ≡ withTables t c → d ≡ setBy c l r
+  register-set k m e u v f g w h t p q = rw (q, p, h, g, f, e)
 
 abbrev leaving : List ℕ
 leaving = 0 ∷ 5 ∷ 6 ∷ 9 ∷ 10 ∷ 11 ∷ 12 ∷ []
@@ -93,7 +93,7 @@ left c (line.Passed n) r o = absurd (miss leaving 4 tt o)
 left c line.Send r o = refl
 left c line.Raw r o = refl
 left c (line.Slot k s) r o = absurd (miss leaving 7 tt o)
-left c (line.Register k) r o = absurd (miss leaving 8 tt o)
+left c (line.Register k m) r o = absurd (miss leaving 8 tt o)
 left c line.Rows r o = refl
 left c (line.Usable k) r o = refl
 left c line.Show r o = refl

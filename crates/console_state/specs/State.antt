@@ -16,7 +16,7 @@ use Rattle.console_state.specs.declared.Console.{Console}
 -- the line sets no row, or one that the tables have
 abbrev pub hasRow : Tables → Line → Bool
 hasRow t (line.Slot k s) = ltb k (t .«slot_count»)
-hasRow t (line.Register k) = ltb k (t .«register_count»)
+hasRow t (line.Register k m) = ltb k (t .«register_count»)
 hasRow t line.Nothing = true
 hasRow t (line.Tables m n) = true
 hasRow t (line.Buffer n) = true
@@ -53,7 +53,7 @@ setBy c (line.Buffer n) r = withRoom n c
 setBy c (line.Set p) r = withSupplement (withPart p r (c .supplement)) c
 setBy c (line.Passed n) r = withSupplement (withPassed n (c .supplement)) c
 setBy c (line.Slot k s) r = withTables (withSlot k (slotOf s (rest (rest r))) (c .tables)) c
-setBy c (line.Register k) r = withTables (withRegister k (registerOf (rest r)) (c .tables)) c
+setBy c (line.Register k m) r = withTables (withRegister k (registerOf m (rest (rest r))) (c .tables)) c
 setBy c line.Nothing r = c
 setBy c line.Send r = c
 setBy c line.Raw r = c

@@ -18,7 +18,7 @@ fn has_row(tables: Tables, line: Line) -> bool
 {
     match line {
         Line::Slot { row, state: _ } => row < tables.slot_count,
-        Line::Register(row) => row < tables.register_count,
+        Line::Register { row, mark: _ } => row < tables.register_count,
         _ => true,
     }
 }
@@ -96,9 +96,9 @@ pub fn set_by(console: Console, line: Line, rest: &[u8]) -> Console
             let t = console_tables::set_slot(console.tables, row, filled);
             with_tables(console, t)
         }
-        Line::Register(row) => {
-            let d = console_words::rest(rest);
-            let filled = console_tables::register_of(d);
+        Line::Register { row, mark } => {
+            let d = console_words::rest(console_words::rest(rest));
+            let filled = console_tables::register_of(mark, d);
             let t = console_tables::set_register(console.tables, row, filled);
             with_tables(console, t)
         }

@@ -35,7 +35,7 @@ said c number (line.Passed n) = []
 said c number line.Send = []
 said c number line.Raw = []
 said c number (line.Slot k s) = []
-said c number (line.Register k) = []
+said c number (line.Register k m) = []
 
 -- the request that a line hands in, if any; r is what stands after its first space. No line has more of it (`lineOf`)
 abbrev pub handed : Line → List ℕ → Option (List ℕ)
@@ -51,7 +51,7 @@ handed (line.Buffer n) r = none
 handed (line.Set p) r = none
 handed (line.Passed n) r = none
 handed (line.Slot k s) r = none
-handed (line.Register k) r = none
+handed (line.Register k m) r = none
 
 -- the state after a line
 abbrev pub afterHanding : Option (List ℕ) → Console → Line → List ℕ → Console

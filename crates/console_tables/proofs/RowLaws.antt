@@ -36,9 +36,9 @@ in-space n s t e b p w =
     let q : octetsOf t ≡ take n (octetsOf s) = ap octetsOf p ∙ digits-cut n s in
     in-zeros n (octetsOf s) (octetsOf t) e b q (rw q (taken n (octetsOf s))) w
 
-pub register-made : (d t e : List ℕ) (b : ℕ) → t ≡ take 512 d → Wrote (replicate 256 0) 0 (octetsOf t) e b → record { card = e } ≡ registerOf d
+pub register-made : (mark : ℕ) (d t e : List ℕ) (b : ℕ) → t ≡ take 512 d → Wrote (replicate 256 0) 0 (octetsOf t) e b → record { card = e; mark = mark } ≡ registerOf mark d
 unfolding registerOf
-register-made d t e b p w = λ j. record { card = in-space 256 d t e b p w j }
+register-made mark d t e b p w = λ j. record { card = in-space 256 d t e b p w j; mark = mark }
 
 -- slot_of: u is what stands after the first word
 pub slot-made : (state : ℕ) (d u v w x k f t : List ℕ) → u ≡ rest d → v ≡ word d → w ≡ word u → x ≡ rest u

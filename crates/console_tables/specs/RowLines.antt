@@ -22,9 +22,9 @@ slotOf state d =
       tvp = padded 16 (octetsOf (rest (rest d)));
     }
 
--- CARD
-unfoldable pub registerOf : List ℕ → RegisterRow
-registerOf d = record { card = padded 256 (octetsOf d) }
+-- CARD, beside the number of the mark (document 02, N3)
+unfoldable pub registerOf : ℕ → List ℕ → RegisterRow
+registerOf mark d = record { card = padded 256 (octetsOf d); mark = mark }
 
 -- so many rows, all zero
 unfoldable pub emptyTables : ℕ → ℕ → Tables

@@ -37,13 +37,13 @@ pub fn slot_of(state: u8, digits: &[u8]) -> SlotRow
     }
 }
 
-// The register row of a word of digits.
-pub fn register_of(digits: &[u8]) -> RegisterRow
-    ensures { λ r. ⌜ r ≡ registerOf (now (digits .entry)) ⌝ }
+// The register row of a mark and a word of digits.
+pub fn register_of(mark: u8, digits: &[u8]) -> RegisterRow
+    ensures { λ r. ⌜ r ≡ registerOf mark (now (digits .entry)) ⌝ }
 {
     let mut card = [0u8; 256];
     console_octets::put_octets(&mut card, byte_strings::front(digits, 512));
-    RegisterRow { card }
+    RegisterRow { card, mark }
 }
 
 // Tables of so many slot rows and register rows, all zero.

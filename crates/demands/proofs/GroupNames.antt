@@ -22,7 +22,7 @@ use Rattle.row_types.specs.Lists.{trimmed}
 use Rattle.row_types.specs.Registers.{isVacant, isRegisterSound, freeRegister}
 use Rattle.row_types.specs.RowReplies.{storedIn}
 use Rattle.row_types.specs.declared.RegisterRow.{RegisterRow}
-use Rattle.history.specs.Model.{key, kl, loaded, _⇒_, registerAt}
+use Rattle.history.specs.Model.{Carried, key, kl, loaded, _⇒_, registerAt}
 use Rattle.history.specs.Demand3.{Live}
 use Rattle.engine.specs.Refusals.{refusal}
 use Rattle.engine.specs.Requests.{fieldsIn, registerIn}
@@ -112,11 +112,11 @@ shows-cards rows run left h l n =
     rw (s .fields-are) (shown-value n (shown rows run left h l .card) (shown-sound rows run left h l))
 
 -- the row of a register that reads as a key has the key's card
-read-card : (registers : List RegisterRow) (n : ℕ) (g r s c : List ℕ) → registerAt (map registerIs registers) n ≡ key g r s c → registerNumbered n registers .card ≡ c
-read-card registers zero g r s c e = nope (cc)
-read-card registers (suc i) g r s c e = let n : suc i - 1 ≡ i = omega arith in rw n (go (isVacant (getD registers i freeRegister)) refl)
+read-card : (registers : List RegisterRow) (n : ℕ) (g r s c : List ℕ) (q : Carried) → registerAt (map registerIs registers) n ≡ key g r s c q → registerNumbered n registers .card ≡ c
+read-card registers zero g r s c q e = nope (cc)
+read-card registers (suc i) g r s c q e = let n : suc i - 1 ≡ i = omega arith in rw n (go (isVacant (getD registers i freeRegister)) refl)
   where
-    reads : registerIs (getD registers i freeRegister) ≡ key g r s c
+    reads : registerIs (getD registers i freeRegister) ≡ key g r s c q
     reads = sym (register-row registers i) ∙ e
 
     go : (t : Bool) → isVacant (getD registers i freeRegister) ≡ t → getD registers i freeRegister .card ≡ c
@@ -148,4 +148,4 @@ names-stand a b before run after left m l quiet kept =
       kept = kept;
     } in
     let stands = demand3 a b (before ++ (run ∷ after)) left m .there _ _ _ _ _ live in
-    ap (valueOf SGN) (read-card (left .registers) (registerReplied run) _ _ _ _ stands) ∙ c
+    ap (valueOf SGN) (read-card (left .registers) (registerReplied run) _ _ _ _ _ (stands .is)) ∙ c

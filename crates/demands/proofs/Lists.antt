@@ -31,12 +31,12 @@ same-rows : (t : Lent) (r : Run) (u : Lent) → Handles t r u → u ≡ rowsAfte
 same-rows t r u h = λ j. record { slots = h .slots-are j; registers = h .registers-are j }
 
 -- the calls are a list of which demand 3 is proved
-record Same (t : Lent) (rs : List Run) (w : Lent) : Type 0 where
-  calls : List Input
-  items : map itemIn rs ≡ trace rowsAfter itemAt t calls
-  rows : w ≡ finally rowsAfter itemAt t calls
+pub record Same (t : Lent) (rs : List Run) (w : Lent) : Type 0 where
+  pub calls : List Input
+  pub items : map itemIn rs ≡ trace rowsAfter itemAt t calls
+  pub rows : w ≡ finally rowsAfter itemAt t calls
 
-same : (t : Lent) (rs : List Run) (w : Lent) → Runs t rs w → Same t rs w
+pub same : (t : Lent) (rs : List Run) (w : Lent) → Runs t rs w → Same t rs w
 unfolding finally trace
 same t [] w m = record { calls = []; items = refl; rows = sym m }
 same t (r ∷ rs) w m =

@@ -1,3 +1,4 @@
 pub mod Demands
 pub mod Screens
 pub mod GroupNames
+pub mod Vending

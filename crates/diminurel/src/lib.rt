@@ -31,6 +31,7 @@ pub extern "C" fn diminurel_handle(
         };
     }
     let mut cards = row_lending::load_cards(registers);
+    let marks = row_lending::load_marks(registers);
     let a = entry_numbers::answer(
         row_lending::load_slots(slots),
         Counts {
@@ -38,6 +39,7 @@ pub extern "C" fn diminurel_handle(
             registers: registers.len(),
         },
         &mut cards,
+        marks,
         supplement,
         request,
         response,
@@ -47,6 +49,7 @@ pub extern "C" fn diminurel_handle(
     }
     row_lending::store_slots(slots, a.slots);
     row_lending::store_cards(registers, &cards);
+    row_lending::store_marks(registers, a.marks);
     a.reply
 }
 
@@ -60,6 +63,7 @@ pub extern "C" fn diminurel_usable(
     ensures { λ n. ⌜ n ≡ yesByte (isUsable (lentTables (now (slots .entry)) (now (registers .entry))) register) ⌝ }
 {
     let cards = row_lending::load_cards(registers);
+    let marks = row_lending::load_marks(registers);
     entry_numbers::usable(
         row_lending::load_slots(slots),
         Counts {
@@ -67,6 +71,7 @@ pub extern "C" fn diminurel_usable(
             registers: registers.len(),
         },
         &cards,
+        marks,
         register,
     )
 }

@@ -17,11 +17,11 @@ Counted x a = (length (a .slots) ≡ length (x .slots)) × (length (a .registers
 
 effect-counted : (x : Call) (c : Command) (vs : List Value) (r s : List ℕ) → Counted x (effect x c vs r s)
 unfolding answered slotsPending slotsWithout
-effect-counted x RS vs r s = (length-map (x .slots) _, refl)
+effect-counted x RS vs r s = (length-map (x .slots) _, length-map (x .registers) _)
 effect-counted x KC vs r s = (length-set (x .slots) _ _, refl)
 effect-counted x KR vs r s = (length-set (x .slots) _ _, refl)
 effect-counted x KL vs r s = (refl, length-set (x .registers) _ _)
-effect-counted x KF vs r s = (length-set (x .slots) _ _, refl)
+effect-counted x KF vs r s = (length-set (x .slots) _ _, length-map (x .registers) _)
 effect-counted x KX vs r s = (length-set (x .slots) _ _, length-map (x .registers) _)
 effect-counted x KD vs r s = (refl, length-set (x .registers) _ _)
 effect-counted x GA vs r s = (refl, refl)

@@ -1,4 +1,4 @@
--- DEMAND 3 of the engine: for every list of calls, from empty tables of all row counts, whatever the requests, supplements and buffers hold.
+-- DEMAND 3 of the engine, and the sentence on marks beside it: for every list of calls, from empty tables of all row counts, whatever the requests, supplements and buffers hold.
 use mathlib.Core.Path.{_≡_, refl}
 use mathlib.Core.List.{List}
 use Prim.Native.Nat.{ℕ}
@@ -11,6 +11,7 @@ use Rattle.history.specs.History.{finally, trace}
 use Rattle.history.specs.Model.{Tables, empty}
 use Rattle.history.specs.Step.{Step}
 use Rattle.history.specs.Demand3.{Demand3}
+use Rattle.history.specs.Marks.{Marks}
 use Rattle.history.proofs.Theorem as theorem
 use Rattle.engine.specs.Answers.{response, answerOf}
 use Rattle.engine.specs.Words.{slotIs, registerIs, tablesOf, Input, Lent, callOf, rowsAfter, answerBytes, itemAt, emptyRows}
@@ -34,3 +35,8 @@ starts-empty a b = rw (map-replicate slotIs a freeSlot, map-replicate registerIs
 pub demand3 : (a b : ℕ) (calls : List Input)
     → Demand3 (trace rowsAfter itemAt (emptyRows a b) calls) (rowsOf (finally rowsAfter itemAt (emptyRows a b) calls))
 demand3 a b calls = theorem.demand3 rowsAfter itemAt rowsOf steps (emptyRows a b) a b (starts-empty a b) calls
+
+-- which of the keys that stand are open (document 02, N3)
+pub marks : (a b : ℕ) (calls : List Input)
+    → Marks (trace rowsAfter itemAt (emptyRows a b) calls) (rowsOf (finally rowsAfter itemAt (emptyRows a b) calls))
+marks a b calls = theorem.marks rowsAfter itemAt rowsOf steps (emptyRows a b) a b (starts-empty a b) calls

@@ -13,3 +13,4 @@ pub mod DecisionLaws
 pub mod SlotStates
 pub mod ReplyTypes
 pub mod Counted
+pub mod Vending

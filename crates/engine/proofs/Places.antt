@@ -18,7 +18,7 @@ use Rattle.row_types.specs.declared.SlotRow.{SlotRow}
 use Rattle.row_types.specs.declared.RegisterRow.{RegisterRow}
 use Rattle.row_types.specs.declared.SlotState.the-variants.{Free}
 use Rattle.row_types.proofs.ListLaws.{found, found-none, every-at}
-use Rattle.history.specs.Model.{State, slotRow, used, vacant, key}
+use Rattle.history.specs.Model.{State, slotRow, used, Carried, vacant, key}
 use Rattle.history.specs.Step.{SessionPlace, own, fresh, StorePlace, held, spare}
 use Rattle.engine.specs.Questions.{slotPlace, freePlace, keyPlace, vacantPlace, isPlace, placeElse, sessionPlace, storePlace, isFilled}
 use Rattle.engine.specs.Words.{stateIn, registerIs, tablesOf}
@@ -100,7 +100,7 @@ module _ (slots : List SlotRow) (registers : List RegisterRow) (g k : List ℕ) 
   home-from (some i) f e q y =
       let m = found (isKeyOf g k) freeRegister registers i e in
       let v = getD registers i freeRegister in
-      record { place = i; is = rw e refl; within = m .0; home = held (attributeOf KSL v) (v .card) (register-row registers i ∙ key-reads g k v (m .1)) }
+      record { place = i; is = rw e refl; within = m .0; home = held (attributeOf KSL v) (v .card) _ (register-row registers i ∙ key-reads g k v (m .1)) }
   home-from none (some i) e q y =
       let m = found isVacant freeRegister registers i q in
       record {
@@ -110,10 +110,10 @@ module _ (slots : List SlotRow) (registers : List RegisterRow) (g k : List ℕ) 
         home = spare (register-row registers i ∙ vacant-reads (getD registers i freeRegister) (m .1)) others;
       }
     where
-      others : (j : ℕ) (s c : List ℕ) → ¬ (getD (map registerIs registers) j vacant ≡ key g k s c)
-      others j s c w =
+      others : (j : ℕ) (s c : List ℕ) (m : Carried) → ¬ (getD (map registerIs registers) j vacant ≡ key g k s c m)
+      others j s c m w =
           let p = found-none (isKeyOf g k) freeRegister (free-keyless g k) registers 0 e j in
-          let z = reads-key g k s c (getD registers j freeRegister) (sym (register-row registers j) ∙ w) in
+          let z = reads-key g k s c m (getD registers j freeRegister) (sym (register-row registers j) ∙ w) in
           nope (cc)
   home-from none none e q y = nope (cc)
 

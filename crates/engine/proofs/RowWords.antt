@@ -24,14 +24,14 @@ use Rattle.card_stored.specs.Stored.{loadValues, storedCard, inRow}
 use Rattle.card_laws.proofs.Incoming.{sgc-back, krn-back, ksl-back}
 use Rattle.row_types.specs.Lists.{trimmed}
 use Rattle.row_types.specs.Slots.{stateNumber, isZeroSlot, hasState, kmcidOf, isNamed, isFilledSlot, isSlotSound, isSameSlot, freeSlot, filledSlot, movedSlot, resetSlot}
-use Rattle.row_types.specs.Registers.{isVacant, attributeOf, isKeyOf, isUnder, isRegisterSound, freeRegister, filledRegister, withoutSlot}
+use Rattle.row_types.specs.Registers.{isVacant, attributeOf, isKeyOf, isUnder, isRegisterSound, isOpen, freeRegister, filledRegister, withoutSlot, closedRow, closedUnder}
 use Rattle.row_types.specs.declared.SlotRow.{SlotRow}
 use Rattle.row_types.specs.declared.RegisterRow.{RegisterRow}
 use Rattle.row_types.specs.declared.SlotState.{SlotState}
 use Rattle.row_types.specs.declared.SlotState.the-variants.{Free, Pending, Loading, Idle}
 use Rattle.row_types.proofs.ListLaws.{trimmed-padded, trimmed-all}
 use Rattle.row_types.proofs.FreeSlots.{free-is-zero}
-use Rattle.history.specs.Model.{State, free, used, vacant, key, dropKey, stopped}
+use Rattle.history.specs.Model.{State, free, used, Carried, vacant, key, dropKey, closeKey, closeAny, stopped}
 use Rattle.engine.specs.Questions.{groupIn, revisionIn}
 use Rattle.engine.specs.Words.{stateIn, slotIs, registerIs}
 
@@ -139,7 +139,7 @@ pub vacant-reads : (v : RegisterRow) → isVacant v ≡ true → registerIs v �
 unfolding registerIs
 vacant-reads v e = rw e refl
 
-pub filled-key : (v : RegisterRow) → isVacant v ≡ false → registerIs v ≡ key (attributeOf SGC v) (attributeOf KRN v) (attributeOf KSL v) (v .card)
+pub filled-key : (v : RegisterRow) → isVacant v ≡ false → registerIs v ≡ key (attributeOf SGC v) (attributeOf KRN v) (attributeOf KSL v) (v .card) (record { isOpen = isOpen v })
 unfolding registerIs
 filled-key v e = rw e refl
 
@@ -157,7 +157,7 @@ free-register-reads = vacant-reads freeRegister free-vacant
 pub register-row : (registers : List RegisterRow) (i : ℕ) → getD (map registerIs registers) i vacant ≡ registerIs (getD registers i freeRegister)
 register-row registers i = rw free-register-reads at (List·getD-map registerIs registers i freeRegister)
 
-pub key-reads : (g k : List ℕ) (v : RegisterRow) → isKeyOf g k v ≡ true → registerIs v ≡ key g k (attributeOf KSL v) (v .card)
+pub key-reads : (g k : List ℕ) (v : RegisterRow) → isKeyOf g k v ≡ true → registerIs v ≡ key g k (attributeOf KSL v) (v .card) (record { isOpen = isOpen v })
 unfolding isKeyOf
 key-reads g k v e =
     let n : isVacant v ≡ false = no (isVacant v) (holds (not (isVacant v)) (and-first (not (isVacant v)) _ e)) in
@@ -167,16 +167,16 @@ key-reads g k v e =
     let w = filled-key v n in
     cc
 
-pub reads-key : (g k s c : List ℕ) (v : RegisterRow) → registerIs v ≡ key g k s c → isKeyOf g k v ≡ true
+pub reads-key : (g k s c : List ℕ) (q : Carried) (v : RegisterRow) → registerIs v ≡ key g k s c q → isKeyOf g k v ≡ true
 unfolding isKeyOf registerIs
-reads-key g k s c v e = go (isVacant v) e
+reads-key g k s c q v e = go (isVacant v) e
   where
-    go : (b : Bool) → cond b vacant (key (attributeOf SGC v) (attributeOf KRN v) (attributeOf KSL v) (v .card)) ≡ key g k s c → (not b && (sameBytes (attributeOf SGC v) g && sameBytes (attributeOf KRN v) k)) ≡ true
+    go : (b : Bool) → cond b vacant (key (attributeOf SGC v) (attributeOf KRN v) (attributeOf KSL v) (v .card) (record { isOpen = isOpen v })) ≡ key g k s c q → (not b && (sameBytes (attributeOf SGC v) g && sameBytes (attributeOf KRN v) k)) ≡ true
     go true w = nope (cc)
     go false w =
         let p : attributeOf SGC v ≡ g = cc in
-        let q : attributeOf KRN v ≡ k = cc in
-        rw (p, q, same-self g) (same-self k)
+        let n : attributeOf KRN v ≡ k = cc in
+        rw (p, n, same-self g) (same-self k)
 
 pub without-reads : (s : List ℕ) (v : RegisterRow) → registerIs (withoutSlot s v) ≡ dropKey s (registerIs v)
 unfolding withoutSlot isUnder dropKey
@@ -187,6 +187,33 @@ without-reads s v = go (isVacant v) (sameBytes (attributeOf KSL v) s) refl refl
     go false true e f = rw (filled-key v e, f) free-register-reads
     go false false e f = rw (filled-key v e, f) refl
 
+-- SM?KF and GL?RS close keys
+module _ (v : RegisterRow) where
+  closed-vacant : isVacant (closedRow v) ≡ isVacant v
+  unfolding closedRow isVacant
+  closed-vacant = refl
+
+  pub closed-key : isVacant v ≡ false → registerIs (closedRow v) ≡ key (attributeOf SGC v) (attributeOf KRN v) (attributeOf KSL v) (v .card) (record { isOpen = false })
+  unfolding closedRow attributeOf isOpen
+  closed-key e = filled-key (closedRow v) (closed-vacant ∙ e)
+
+  pub closed-any : registerIs (closedRow v) ≡ closeAny (registerIs v)
+  unfolding closeAny
+  closed-any = go (isVacant v) refl
+    where
+      go : (b : Bool) → isVacant v ≡ b → registerIs (closedRow v) ≡ closeAny (registerIs v)
+      go true e = rw (vacant-reads v e, vacant-reads (closedRow v) (closed-vacant ∙ e)) refl
+      go false e = rw (filled-key v e, closed-key e) refl
+
+  pub closed-under : (s : List ℕ) → registerIs (closedUnder s v) ≡ closeKey s (registerIs v)
+  unfolding closedUnder isUnder closeKey
+  closed-under s = go (isVacant v) (sameBytes (attributeOf KSL v) s) refl refl
+    where
+      go : (b t : Bool) → isVacant v ≡ b → sameBytes (attributeOf KSL v) s ≡ t → registerIs (cond (not b && t) (closedRow v) v) ≡ closeKey s (registerIs v)
+      go true t e f = rw (vacant-reads v e) refl
+      go false true e f = rw (filled-key v e, f) (closed-key e)
+      go false false e f = rw (filled-key v e, f) refl
+
 -- the row that a load fills
 module _ (card kcv s : List ℕ) (h : isIncoming card ≡ true) (b : inForm (Hex 6) kcv ≡ true) (c : isIdentifier s ≡ true) where
   abbrev stored : List ℕ
@@ -196,8 +223,8 @@ module _ (card kcv s : List ℕ) (h : isIncoming card ≡ true) (b : inForm (Hex
   unfolding isVacant filledRegister areAll inRow storedCard table entryBytes
   not-vacant = refl
 
-  pub loaded-reads : registerIs (filledRegister stored) ≡ key (groupIn card) (revisionIn card) s (inRow stored)
-  unfolding filledRegister attributeOf areAll isNumber isUnpadded
+  pub loaded-reads : registerIs (filledRegister stored) ≡ key (groupIn card) (revisionIn card) s (inRow stored) (record { isOpen = true })
+  unfolding filledRegister attributeOf isOpen areAll isNumber isUnpadded
   loaded-reads =
       let f = filled-key (filledRegister stored) not-vacant in
       let z : Option (List ℕ) → List ℕ = λ o. orElse o [] in

@@ -34,7 +34,7 @@ use Rattle.message_commands.specs.declared.Command.the-variants.{RS, KC, KR, KL
 use Rattle.card_attributes.specs.Table.{SGC, KRN, KSL}
 use Rattle.row_types.specs.Lists.{everyRow}
 use Rattle.row_types.specs.Slots.{stateNumber, hasState, isSlotSound, freeSlot, filledSlot, movedSlot, resetSlot}
-use Rattle.row_types.specs.Registers.{isVacant, attributeOf, freeRegister, filledRegister, withoutSlot}
+use Rattle.row_types.specs.Registers.{isVacant, attributeOf, isOpen, freeRegister, filledRegister, withoutSlot, closedRow, closedUnder}
 use Rattle.row_types.specs.Sound.{areSound}
 use Rattle.row_types.specs.Supplements.{isWellFormed, isIdentityRight, isLoadRequestRight}
 use Rattle.row_types.specs.declared.SlotRow.{SlotRow}
@@ -42,7 +42,7 @@ use Rattle.row_types.specs.declared.RegisterRow.{RegisterRow}
 use Rattle.row_types.specs.declared.SlotState.{SlotState}
 use Rattle.row_types.specs.declared.SlotState.the-variants.{Pending, Loading, Idle}
 use Rattle.row_types.proofs.ListLaws.{map-set, map-sweep, every-true}
-use Rattle.history.specs.Model.{pending, loading, idle, used, free, key, kl, loaded, Item, _⇒_, dropKey, dropSlot, stopped, reset}
+use Rattle.history.specs.Model.{pending, loading, idle, used, free, Register, key, kl, loaded, Item, _⇒_, dropKey, dropSlot, closeKey, finish, closeAny, stopped, reset}
 use Rattle.history.specs.Step.{Step, refuses, reads, starts, opens, loads, closes, deletes-slot, deletes-key, resets}
 use Rattle.engine.specs.Requests.{commandIn, fieldsIn, isOneOfTen, areFieldsOf, registerIn, recordIn, kmcIdentityIn, slotIn, cardIn, firstText}
 use Rattle.engine.specs.Questions.{Call, asked, areCounts, isRecordInForm, isStateRight, isPlace, slotPlace, sessionPlace, storePlace, slotNamed, placeIn, isFilled, groupIn, revisionIn, questions, firstNo}
@@ -50,7 +50,7 @@ use Rattle.engine.specs.Answers.{Answer, response, accepted, slotsMoved,
 use Rattle.engine.specs.Answers as answers
 use Rattle.engine.specs.Words.{stateIn, slotIs, registerIs, tablesOf, requestOf, itemFor, isAccepted}
 use Rattle.engine.specs.declared.Refusal.{Refusal}
-use Rattle.engine.proofs.RowWords.{free-reads, slot-row, named-state, named-name, named-reads, sound-name, moved-reads, reset-reads, filled-reads, free-register-reads, filled-key, register-row, without-reads, loaded-reads}
+use Rattle.engine.proofs.RowWords.{free-reads, slot-row, named-state, named-name, named-reads, sound-name, moved-reads, reset-reads, filled-reads, free-register-reads, filled-key, register-row, without-reads, closed-any, closed-under, loaded-reads}
 use Rattle.engine.proofs.QuestionLaws.{AllYes, all-yes}
 use Rattle.engine.proofs.AnswerWords.{header-five, accepted-said, refusal-said}
 use Rattle.engine.proofs.Places.{KnownAt, known-at, sound-at, spot-at, HomeAt, home-at}
@@ -172,7 +172,7 @@ kr-step x vs y =
     rw (says-yes x KR vs y, slots-moved x KR vs y k Loading refl) (opens (slotIn KR vs) (k .place) e)
 
 -- a state that is PENDING or LOADING is not IDLE
-not-idle : (n : ℕ) → (eqb n 1 || eqb n 2) ≡ true → stateIn n ≢ idle
+pub not-idle : (n : ℕ) → (eqb n 1 || eqb n 2) ≡ true → stateIn n ≢ idle
 not-idle n h e = go (eqb n 1) (eqb n 2) h e
   where
     go : (p q : Bool) → (p || q) ≡ true → cond p pending (cond q loading idle) ≡ idle → ⊥
@@ -180,17 +180,29 @@ not-idle n h e = go (eqb n 1) (eqb n 2) h e
     go false true w z = nope (cc)
     go false false w z = nope (cc)
 
+-- what the registers say after SM?KF, SM?KX and GL?RS, and the slots after GL?RS
+module _ (x : Call) (vs : List Value) where
+  swept : (f : RegisterRow → RegisterRow) (g : Register → Register) → ((r : RegisterRow) → registerIs (f r) ≡ g (registerIs r)) → map registerIs (map f (x .registers)) ≡ map g (map registerIs (x .registers))
+  swept f g h = map-sweep registerIs (λ (r : RegisterRow). true) f g (λ r e. h r) (x .registers) (every-true (x .registers))
+
+  kf-registers : map registerIs (effect x KF vs (recordIn KF vs) (slotIn KF vs) .registers) ≡ map (closeKey (slotIn KF vs)) (map registerIs (x .registers))
+  unfolding answered
+  kf-registers = swept (closedUnder (slotIn KF vs)) (closeKey (slotIn KF vs)) (λ r. closed-under r (slotIn KF vs))
+
+  kx-registers : map registerIs (effect x KX vs (recordIn KX vs) (slotIn KX vs) .registers) ≡ map (dropKey (slotIn KX vs)) (map registerIs (x .registers))
+  unfolding answered
+  kx-registers = swept (withoutSlot (slotIn KX vs)) (dropKey (slotIn KX vs)) (without-reads (slotIn KX vs))
+
+  rs-registers : map registerIs (effect x RS vs (recordIn RS vs) (slotIn RS vs) .registers) ≡ map closeAny (map registerIs (x .registers))
+  unfolding answered
+  rs-registers = swept closedRow closeAny closed-any
+
 kf-step : (x : Call) (vs : List Value) → Yes x KF vs → IsStep x KF vs (effect x KF vs (recordIn KF vs) (slotIn KF vs))
-unfolding answered
+unfolding answered finish
 kf-step x vs y =
     let k = known-at (x .slots) (slotIn KF vs) (y .known) in
     let w : (hasState Pending (v x KF vs y k) || hasState Loading (v x KF vs y k)) ≡ true = rw (row-is x KF vs y k) at (y .state) in
-    rw (says-yes x KF vs y, slots-moved x KF vs y k Idle refl) (closes (slotIn KF vs) (k .place) _ (not-idle (v x KF vs y k .state) w) (row-reads x KF vs y k))
-
--- what the registers say after SM?KX, and the slots after GL?RS
-kx-registers : (x : Call) (vs : List Value) → map registerIs (effect x KX vs (recordIn KX vs) (slotIn KX vs) .registers) ≡ map (dropKey (slotIn KX vs)) (map registerIs (x .registers))
-unfolding answered
-kx-registers x vs = map-sweep registerIs (λ (r : RegisterRow). true) (withoutSlot (slotIn KX vs)) (dropKey (slotIn KX vs)) (λ r e. without-reads (slotIn KX vs) r) (x .registers) (every-true (x .registers))
+    rw (says-yes x KF vs y, slots-moved x KF vs y k Idle refl, kf-registers x vs) (closes (slotIn KF vs) (k .place) _ (not-idle (v x KF vs y k .state) w) (row-reads x KF vs y k))
 
 rs-slots : (x : Call) (vs : List Value) → Yes x RS vs → map slotIs (effect x RS vs (recordIn RS vs) (slotIn RS vs) .slots) ≡ map stopped (map slotIs (x .slots))
 unfolding answered
@@ -204,7 +216,7 @@ kx-step x vs y =
 
 rs-step : (x : Call) (vs : List Value) → Yes x RS vs → IsStep x RS vs (effect x RS vs (recordIn RS vs) (slotIn RS vs))
 unfolding answered reset
-rs-step x vs y = rw (says-yes x RS vs y, rs-slots x vs y) resets
+rs-step x vs y = rw (says-yes x RS vs y, rs-slots x vs y, rs-registers x vs) resets
 
 -- a key that is loaded: the rows after it
 module _ (x : Call) (vs : List Value) (y : Yes x KL vs) where
@@ -244,11 +256,11 @@ module _ (x : Call) (vs : List Value) (y : Yes x KL vs) where
   unfolding loadedCard areAll isNumber isUnpadded
   is-short = stored-short card is-card (loadValues (x .supplement .check) name) refl is-check is-name refl
 
-  is-reading : registerIs (filledRegister stored) ≡ key (groupIn card) (revisionIn card) name (inRow stored)
+  is-reading : registerIs (filledRegister stored) ≡ key (groupIn card) (revisionIn card) name (inRow stored) (record { isOpen = true })
   unfolding loadedCard
   is-reading = loaded-reads card (x .supplement .check) name is-card is-check is-name
 
-  kl-registers : map registerIs (effect x KL vs (recordIn KL vs) name .registers) ≡ set (map registerIs (x .registers)) (register-at .place) (key (groupIn card) (revisionIn card) name (inRow stored))
+  kl-registers : map registerIs (effect x KL vs (recordIn KL vs) name .registers) ≡ set (map registerIs (x .registers)) (register-at .place) (key (groupIn card) (revisionIn card) name (inRow stored) (record { isOpen = true }))
   unfolding answered cardPlace
   kl-registers =
       ap (λ (o : Option ℕ). map registerIs (set (x .registers) (placeIn (x .registers) o) (filledRegister stored))) (register-at .is)
@@ -306,7 +318,7 @@ module _ (x : Call) (vs : List Value) (y : Yes x KD vs) where
       let g = rw m at (and-second (leb (suc i) (length (x .registers))) _ (and-second (leb 1 (suc i)) _ f)) in
       let o : isVacant r ≡ false = no (isVacant r) (holds (not (isVacant r)) g) in
       rw (says-yes x KD vs y, e, m, map-set registerIs (x .registers) i freeRegister, free-register-reads)
-      (deletes-key i (attributeOf SGC r) (attributeOf KRN r) (attributeOf KSL r) (r .card) (register-row (x .registers) i ∙ filled-key r o))
+      (deletes-key i (attributeOf SGC r) (attributeOf KRN r) (attributeOf KSL r) (r .card) (record { isOpen = isOpen r }) (register-row (x .registers) i ∙ filled-key r o))
 
   kd-step : IsStep x KD vs (effect x KD vs (recordIn KD vs) (slotIn KD vs))
   kd-step = kd-step-of (registerIn vs) refl (y .filled)

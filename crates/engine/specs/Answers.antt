@@ -13,7 +13,7 @@ use Rattle.card_stored.specs.Stored.{loadValues, storedCard}
 use Rattle.message_commands.specs.declared.Command.{Command}
 use Rattle.message_commands.specs.declared.Command.the-variants.{RS, KC, KR, KL, KF, KX, KD, GA, GL, KQ, Unknown}
 use Rattle.row_types.specs.Slots.{freeSlot, filledSlot, movedSlot, resetSlot}
-use Rattle.row_types.specs.Registers.{freeRegister, filledRegister, withoutSlot}
+use Rattle.row_types.specs.Registers.{freeRegister, filledRegister, withoutSlot, closedRow, closedUnder}
 use Rattle.row_types.specs.RowReplies.{storedIn, slotNames, nameFields, queryFields}
 use Rattle.row_types.specs.Supplements.{loadRequest}
 use Rattle.row_types.specs.declared.SlotRow.{SlotRow}
@@ -110,24 +110,27 @@ answered x o fields slots registers = record {
 -- what each command does (document 01, Slots and registers; the clauses are 001's): vs are its fields, r the record
 -- among them, s the slot that it names
 abbrev pub effect : Call → Command → List Value → List ℕ → List ℕ → Answer
--- GL?RS, 6.2.7, resets: PENDING and LOADING become IDLE
-effect x RS vs r s = answered x Done [] (map resetSlot (x .slots)) (x .registers)
--- SM?KC, 6.3.3, starts a session: the slot becomes PENDING, its keys stay; slot and load request are replied
+-- GL?RS, 6.2.7, resets: PENDING and LOADING become IDLE, and every key is closed (document 02, N3)
+effect x RS vs r s = answered x Done [] (map resetSlot (x .slots)) (map closedRow (x .registers))
+-- SM?KC, 6.3.3, starts a session: the slot becomes PENDING, its keys stay, with their marks (document 02, N3); slot and
+-- load request are replied
 effect x KC vs r s =
     answered x (Accepted Pending) (string s ∷ string (loadRequest (x .supplement)) ∷ [])
     (slotsPending s (fingerprintIn (kmcIdentityIn r)) (x .supplement .clock) (x .slots)) (x .registers)
 -- SM?KR, 6.3.4, opens it: PENDING becomes LOADING, TVP cleared; the slot is replied
 effect x KR vs r s = answered x (Accepted Loading) (string s ∷ []) (slotsMoved Loading s (x .slots)) (x .registers)
--- SM?KL, 6.3.5, loads a key: it goes to the register that holds it, else to the lowest free one; register and stored
--- card are replied
+-- SM?KL, 6.3.5, loads a key: it goes to the register that holds it, else to the lowest free one, and is open (document
+-- 02, N3); register and stored card are replied
 effect x KL vs r s =
     answered x (Accepted Loading)
     (number (cardPlace (cardIn r) (x .registers) + 1) ∷ string (loadedCard (cardIn r) (x .supplement .check) s) ∷ [])
     (x .slots)
     (set (x .registers) (cardPlace (cardIn r) (x .registers))
     (filledRegister (loadedCard (cardIn r) (x .supplement .check) s)))
--- SM?KF, 6.3.6, closes the session: PENDING or LOADING becomes IDLE
-effect x KF vs r s = answered x (Accepted Idle) [] (slotsMoved Idle s (x .slots)) (x .registers)
+-- SM?KF, 6.3.6, closes the session: PENDING or LOADING becomes IDLE, and just the keys whose KSL is the slot are closed
+-- (document 02, N3)
+effect x KF vs r s =
+    answered x (Accepted Idle) [] (slotsMoved Idle s (x .slots)) (map (closedUnder s) (x .registers))
 -- SM?KX, 6.3.7, deletes a slot: the row becomes free, as do just the registers whose KSL is the slot
 effect x KX vs r s = answered x (Accepted Free) [] (slotsWithout s (x .slots)) (map (withoutSlot s) (x .registers))
 -- SM?KD, 6.3.9, deletes a key: the register becomes free

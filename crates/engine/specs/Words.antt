@@ -13,7 +13,7 @@ use Rattle.card_stored.specs.Stored.{inRow}
 use Rattle.message_commands.specs.declared.Command.{Command}
 use Rattle.message_commands.specs.declared.Command.the-variants.{RS, KC, KR, KL, KF, KX, KD, GA, GL, KQ, Unknown}
 use Rattle.row_types.specs.Slots.{isZeroSlot, kmcidOf, freeSlot}
-use Rattle.row_types.specs.Registers.{isVacant, attributeOf, freeRegister}
+use Rattle.row_types.specs.Registers.{isVacant, attributeOf, isOpen, freeRegister}
 use Rattle.row_types.specs.declared.SlotRow.{SlotRow}
 use Rattle.row_types.specs.declared.RegisterRow.{RegisterRow}
 use Rattle.row_types.specs.declared.Supplement.{Supplement}
@@ -57,9 +57,12 @@ stateIn n = cond (eqb n 1) pending (cond (eqb n 2) loading idle)
 unfoldable pub slotIs : SlotRow → Slot
 slotIs r = cond (isZeroSlot r) free (used (kmcidOf r) (stateIn (r .state)))
 
--- a register row is free where every byte is zero; else its card has SGC, KRN and KSL, and its bytes are the row's
+-- a register row is free where every byte of its card's space is zero; else its card has SGC, KRN and KSL, and its
+-- bytes are the card's; beside them it carries whether it is open (document 02, N3)
 unfoldable pub registerIs : RegisterRow → Register
-registerIs r = cond (isVacant r) vacant (key (attributeOf SGC r) (attributeOf KRN r) (attributeOf KSL r) (r .card))
+registerIs r =
+    cond (isVacant r) vacant
+    (key (attributeOf SGC r) (attributeOf KRN r) (attributeOf KSL r) (r .card) (record { isOpen = isOpen r }))
 
 abbrev pub tablesOf : List SlotRow → List RegisterRow → Tables
 tablesOf slots registers = record { slots = map slotIs slots; registers = map registerIs registers }

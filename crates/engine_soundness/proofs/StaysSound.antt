@@ -20,7 +20,7 @@ use Rattle.record_identities.specs.Identities.{colon, nameIn, fingerprintIn, id
 use Rattle.record_types.specs.KeyRecords.{publicKeyInForm}
 use Rattle.row_types.specs.Lists.{everyRow}
 use Rattle.row_types.specs.Slots.{stateNumber, isSlotSound, freeSlot, movedSlot, resetSlot}
-use Rattle.row_types.specs.Registers.{isRegisterSound, freeRegister, withoutSlot}
+use Rattle.row_types.specs.Registers.{isRegisterSound, freeRegister, withoutSlot, closedRow, closedUnder}
 use Rattle.row_types.specs.Sound.{areSound}
 use Rattle.row_types.specs.Supplements.{isWellFormed}
 use Rattle.row_types.specs.declared.SlotState.{SlotState}
@@ -28,6 +28,7 @@ use Rattle.row_types.specs.declared.SlotState.the-variants.{Loading, Idle}
 use Rattle.history.specs.History.{finally}
 use Rattle.history.proofs.Latch.{inv-finally}
 use Rattle.history.proofs.Sound.{sound-step, sound-empty}
+use Rattle.history.proofs.BusyLaws.{busy-step, busy-empty}
 use Rattle.engine.specs.Refusals.{refusal}
 use Rattle.engine.specs.Requests.{commandIn, fieldsIn, recordIn, kmcIdentityIn, slotIn, cardIn, firstText}
 use Rattle.engine.specs.Questions.{Call, slotNamed, questions, firstNo}
@@ -42,13 +43,14 @@ use Rattle.engine.proofs.AnswerLaws.{refused-by, held-not}
 use Rattle.engine.proofs.Steps.{Yes, yes-of, row-is, identity-name, key-identity, is-name, is-card, is-check, moves}
 use Rattle.engine.proofs.Demand3.{starts-empty}
 use Rattle.engine_soundness.proofs.RowTests.{every-set, every-map, every-replicate}
-use Rattle.engine_soundness.proofs.SoundWords.{SoundTables, sound-from, sound-to}
-use Rattle.engine_soundness.proofs.WrittenRows.{opened-sound, moved-sound, reset-sound, without-sound, loaded-sound}
+use Rattle.engine_soundness.proofs.SoundWords.{hasMark, free-mark, SoundTables, sound-from, sound-to}
+use Rattle.engine_soundness.proofs.WrittenRows.{opened-sound, moved-sound, reset-sound, without-sound, closed-sound, under-sound, loaded-sound, closed-mark, under-mark, without-mark, loaded-mark}
 
 -- every row of an answer is sound by itself
 pub record EachSound (a : Answer) : Type 0 where
   pub slots : everyRow isSlotSound (a .slots) ≡ true
   pub registers : everyRow isRegisterSound (a .registers) ≡ true
+  pub marks : everyRow hasMark (a .registers) ≡ true
 
 -- the fingerprint in an identity in form
 identity-fingerprint : (q : List ℕ) → identityInForm q ≡ true → inForm (Hex 16) (fingerprintIn q) ≡ true
@@ -60,7 +62,11 @@ identity-fingerprint q e =
 module _ (x : Call) (vs : List Value) (s : SoundTables (x .slots) (x .registers)) where
   each-rs : Yes x RS vs → EachSound (effect x RS vs (recordIn RS vs) (slotIn RS vs))
   unfolding answered
-  each-rs y = record { slots = every-map isSlotSound resetSlot reset-sound (x .slots) (s .each-slot); registers = s .each-register }
+  each-rs y = record {
+    slots = every-map isSlotSound resetSlot reset-sound (x .slots) (s .each-slot);
+    registers = every-map isRegisterSound closedRow closed-sound (x .registers) (s .each-register);
+    marks = every-map hasMark closedRow closed-mark (x .registers) (s .each-mark);
+  }
 
   each-kc : Yes x KC vs → EachSound (effect x KC vs (recordIn KC vs) (slotIn KC vs))
   unfolding answered slotsPending recordIn slotIn isWellFormed
@@ -68,7 +74,7 @@ module _ (x : Call) (vs : List Value) (s : SoundTables (x .slots) (x .registers)
       let q = kmcIdentityIn (firstText vs) in
       let i = key-identity (firstText vs) (and-first (publicKeyInForm (firstText vs)) _ (y .form)) in
       let w = opened-sound (nameIn q) (fingerprintIn q) (x .supplement .clock) (identity-name q i) (identity-fingerprint q i) (and-first (isTimestamp (x .supplement .clock)) _ (y .supplement)) in
-      record { slots = every-set isSlotSound (x .slots) _ _ w (s .each-slot); registers = s .each-register }
+      record { slots = every-set isSlotSound (x .slots) _ _ w (s .each-slot); registers = s .each-register; marks = s .each-mark }
 
   -- SM?KR and SM?KF
   slots-moved : (c : Command) (y : Yes x c vs) (k : KnownAt (x .slots) (slotIn c vs)) (a : SlotState) → eqb (stateNumber a) 0 ≡ false → eqb (stateNumber a) 1 ≡ false
@@ -81,28 +87,38 @@ module _ (x : Call) (vs : List Value) (s : SoundTables (x .slots) (x .registers)
 
   each-kr : Yes x KR vs → EachSound (effect x KR vs (recordIn KR vs) (slotIn KR vs))
   unfolding answered
-  each-kr y = record { slots = slots-moved KR y (known-at (x .slots) (slotIn KR vs) (y .known)) Loading refl refl; registers = s .each-register }
+  each-kr y = record { slots = slots-moved KR y (known-at (x .slots) (slotIn KR vs) (y .known)) Loading refl refl; registers = s .each-register; marks = s .each-mark }
 
   each-kf : Yes x KF vs → EachSound (effect x KF vs (recordIn KF vs) (slotIn KF vs))
   unfolding answered
-  each-kf y = record { slots = slots-moved KF y (known-at (x .slots) (slotIn KF vs) (y .known)) Idle refl refl; registers = s .each-register }
+  each-kf y = record {
+    slots = slots-moved KF y (known-at (x .slots) (slotIn KF vs) (y .known)) Idle refl refl;
+    registers = every-map isRegisterSound (closedUnder (slotIn KF vs)) (under-sound (slotIn KF vs)) (x .registers) (s .each-register);
+    marks = every-map hasMark (closedUnder (slotIn KF vs)) (under-mark (slotIn KF vs)) (x .registers) (s .each-mark);
+  }
 
   each-kl : Yes x KL vs → EachSound (effect x KL vs (recordIn KL vs) (slotIn KL vs))
   unfolding answered
   each-kl y =
       let w = loaded-sound (cardIn (recordIn KL vs)) (x .supplement .check) (slotIn KL vs) (is-card x vs y) (is-check x vs y) (is-name x vs y) in
-      record { slots = s .each-slot; registers = every-set isRegisterSound (x .registers) _ _ w (s .each-register) }
+      let m = loaded-mark (cardIn (recordIn KL vs)) (x .supplement .check) (slotIn KL vs) in
+      record { slots = s .each-slot; registers = every-set isRegisterSound (x .registers) _ _ w (s .each-register); marks = every-set hasMark (x .registers) _ _ m (s .each-mark) }
 
   each-kx : Yes x KX vs → EachSound (effect x KX vs (recordIn KX vs) (slotIn KX vs))
   unfolding answered slotsWithout
   each-kx y = record {
     slots = every-set isSlotSound (x .slots) _ freeSlot free-sound (s .each-slot);
     registers = every-map isRegisterSound (withoutSlot (slotIn KX vs)) (without-sound (slotIn KX vs)) (x .registers) (s .each-register);
+    marks = every-map hasMark (withoutSlot (slotIn KX vs)) (without-mark (slotIn KX vs)) (x .registers) (s .each-mark);
   }
 
   each-kd : Yes x KD vs → EachSound (effect x KD vs (recordIn KD vs) (slotIn KD vs))
   unfolding answered
-  each-kd y = record { slots = s .each-slot; registers = every-set isRegisterSound (x .registers) _ freeRegister free-register-sound (s .each-register) }
+  each-kd y = record {
+    slots = s .each-slot;
+    registers = every-set isRegisterSound (x .registers) _ freeRegister free-register-sound (s .each-register);
+    marks = every-set hasMark (x .registers) _ freeRegister free-mark (s .each-mark);
+  }
 
 each-effect : (x : Call) (c : Command) (vs : List Value) → SoundTables (x .slots) (x .registers) → Yes x c vs → EachSound (effect x c vs (recordIn c vs) (slotIn c vs))
 unfolding answered
@@ -113,9 +129,9 @@ each-effect x KL vs s y = each-kl x vs s y
 each-effect x KF vs s y = each-kf x vs s y
 each-effect x KX vs s y = each-kx x vs s y
 each-effect x KD vs s y = each-kd x vs s y
-each-effect x GA vs s y = record { slots = s .each-slot; registers = s .each-register }
-each-effect x GL vs s y = record { slots = s .each-slot; registers = s .each-register }
-each-effect x KQ vs s y = record { slots = s .each-slot; registers = s .each-register }
+each-effect x GA vs s y = record { slots = s .each-slot; registers = s .each-register; marks = s .each-mark }
+each-effect x GL vs s y = record { slots = s .each-slot; registers = s .each-register; marks = s .each-mark }
+each-effect x KQ vs s y = record { slots = s .each-slot; registers = s .each-register; marks = s .each-mark }
 each-effect x Unknown vs s y = let z = y .header in nope (cc)
 
 each-answer : (x : Call) → SoundTables (x .slots) (x .registers) → EachSound (answerOf x)
@@ -123,7 +139,7 @@ unfolding answerOf refused
 each-answer x s = go (firstNo (questions x)) refl
   where
     go : (o : Option Refusal) → firstNo (questions x) ≡ o → EachSound (answerTo x o (commandIn (x .request)) (fieldsIn (x .request)))
-    go (some r) e = record { slots = s .each-slot; registers = s .each-register }
+    go (some r) e = record { slots = s .each-slot; registers = s .each-register; marks = s .each-mark }
     go none e = each-effect x (commandIn (x .request)) (fieldsIn (x .request)) s (yes-of x e)
 
 -- THE THEOREM: sound rows stay sound, so refusal 3 never follows from the engine's own doing
@@ -135,7 +151,9 @@ stays-sound x h =
     sound-to (answerOf x .slots) (answerOf x .registers) (record {
       each-slot = e .slots;
       each-register = e .registers;
+      each-mark = e .marks;
       together = sound-step (tablesOf (x .slots) (x .registers)) (m .0) (tablesOf (answerOf x .slots) (answerOf x .registers)) (m .1) (s .together);
+      busy = busy-step (tablesOf (x .slots) (x .registers)) (m .0) (tablesOf (answerOf x .slots) (answerOf x .registers)) (m .1) (s .together) (s .busy);
     })
 
 -- FROM EMPTY TABLES ON
@@ -147,7 +165,9 @@ unfolding emptyRows
 empty-sound a b = sound-to (replicate a freeSlot) (replicate b freeRegister) (record {
   each-slot = every-replicate isSlotSound a freeSlot free-sound;
   each-register = every-replicate isRegisterSound b freeRegister free-register-sound;
+  each-mark = every-replicate hasMark b freeRegister free-mark;
   together = rw (starts-empty a b) (sound-empty a b);
+  busy = rw (starts-empty a b) (busy-empty a b);
 })
 
 -- the rows are sound after every list of calls

@@ -20,11 +20,13 @@ use Rattle.text_forms.specs.Forms.{inForm}
 use Rattle.text_forms.specs.declared.Form.the-variants.{Hex}
 use Rattle.text_decimals.specs.Decimals.{isNumber, isUnpadded}
 use Rattle.card_incoming.specs.Incoming.{isIncoming}
-use Rattle.card_stored.specs.Stored.{loadValues}
+use Rattle.card_attributes.specs.Table.{table}
+use Rattle.card_entries.specs.Entries.{entryBytes}
+use Rattle.card_stored.specs.Stored.{loadValues, storedCard, inRow}
 use Rattle.card_laws.proofs.Incoming.{stored-passes}
 use Rattle.row_types.specs.Lists.{padded, trimmed}
 use Rattle.row_types.specs.Slots.{stateNumber, isZeroSlot, hasState, kmcidOf, isFilledSlot, isSlotSound, filledSlot, movedSlot, resetSlot}
-use Rattle.row_types.specs.Registers.{isVacant, isUnder, isRegisterSound, freeRegister, filledRegister, withoutSlot}
+use Rattle.row_types.specs.Registers.{isVacant, isUnder, isRegisterSound, isClosed, isOpen, freeRegister, filledRegister, withoutSlot, closedRow, closedUnder}
 use Rattle.row_types.specs.declared.SlotRow.{SlotRow}
 use Rattle.row_types.specs.declared.RegisterRow.{RegisterRow}
 use Rattle.row_types.specs.declared.SlotState.{SlotState}
@@ -32,6 +34,7 @@ use Rattle.row_types.specs.declared.SlotState.the-variants.{Free, Pending, Load
 use Rattle.row_types.proofs.ListLaws.{trimmed-padded, trimmed-all}
 use Rattle.engine.specs.Answers.{loadedCard}
 use Rattle.engine.proofs.RowWords.{free-register-sound}
+use Rattle.engine_soundness.proofs.SoundWords.{hasMark, free-mark}
 
 -- BYTES IN A SPACE. What fills it is as it was
 pub padded-whole : (n : ℕ) (s : List ℕ) → length s ≡ n → padded n s ≡ s
@@ -128,8 +131,46 @@ without-sound s r h = go (isUnder s r)
     go true = free-register-sound
     go false = h
 
+-- GL?RS and SM?KF close a key, and leave its card
+pub closed-sound : (r : RegisterRow) → isRegisterSound r ≡ true → isRegisterSound (closedRow r) ≡ true
+unfolding isRegisterSound closedRow isVacant
+closed-sound r h = h
+
+pub under-sound : (s : List ℕ) (r : RegisterRow) → isRegisterSound r ≡ true → isRegisterSound (closedUnder s r) ≡ true
+unfolding closedUnder
+under-sound s r h = go (isUnder s r)
+  where
+    go : (b : Bool) → isRegisterSound (cond b (closedRow r) r) ≡ true
+    go true = closed-sound r h
+    go false = h
+
 -- SM?KL
 pub loaded-sound : (card check s : List ℕ) → isIncoming card ≡ true → inForm (Hex 6) check ≡ true → isIdentifier s ≡ true → isRegisterSound (filledRegister (loadedCard card check s)) ≡ true
 unfolding isRegisterSound filledRegister loadedCard isNumber isUnpadded areAll
 loaded-sound card check s c k n =
     or-second (isVacant (filledRegister (loadedCard card check s))) _ (stored-passes card c (loadValues check s) refl k n refl)
+
+-- THE MARKS that they leave
+pub closed-mark : (r : RegisterRow) → hasMark r ≡ true → hasMark (closedRow r) ≡ true
+unfolding hasMark isClosed closedRow
+closed-mark r h = refl
+
+pub under-mark : (s : List ℕ) (r : RegisterRow) → hasMark r ≡ true → hasMark (closedUnder s r) ≡ true
+unfolding closedUnder
+under-mark s r h = go (isUnder s r)
+  where
+    go : (b : Bool) → hasMark (cond b (closedRow r) r) ≡ true
+    go true = closed-mark r h
+    go false = h
+
+pub without-mark : (s : List ℕ) (r : RegisterRow) → hasMark r ≡ true → hasMark (withoutSlot s r) ≡ true
+unfolding withoutSlot
+without-mark s r h = go (isUnder s r)
+  where
+    go : (b : Bool) → hasMark (cond b freeRegister r) ≡ true
+    go true = free-mark
+    go false = h
+
+pub loaded-mark : (card check s : List ℕ) → hasMark (filledRegister (loadedCard card check s)) ≡ true
+unfolding hasMark isClosed isOpen isVacant filledRegister areAll inRow loadedCard storedCard table entryBytes
+loaded-mark card check s = refl

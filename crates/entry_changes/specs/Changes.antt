@@ -6,7 +6,7 @@ use lib.ListN.{length, getD, set, take}
 use Rattle.field_values.specs.Values.{Value, valuesOf}
 use Rattle.row_types.specs.Lists.{mapped}
 use Rattle.row_types.specs.Slots.{freeSlot, movedSlot, resetSlot}
-use Rattle.row_types.specs.Registers.{freeRegister, filledRegister, withoutSlot}
+use Rattle.row_types.specs.Registers.{freeRegister, filledRegister, withoutSlot, closedRow, closedUnder}
 use Rattle.row_types.specs.declared.SlotRow.{SlotRow}
 use Rattle.row_types.specs.declared.RegisterRow.{RegisterRow}
 use Rattle.row_types.specs.declared.Supplement.{Supplement}
@@ -37,11 +37,11 @@ slotsAfter (QuerySlot k) n l x vs = l
 -- the register rows
 abbrev pub registersAfter : Decision → ℕ → List RegisterRow → Supplement → List Value → List RegisterRow
 registersAfter (Refuse r) m l x vs = l
-registersAfter Reset m l x vs = l
+registersAfter Reset m l x vs = mapped m closedRow l  -- GL?RS: every key is closed
 registersAfter (Start k) m l x vs = l
 registersAfter (Open k) m l x vs = l
-registersAfter (Load k) m l x vs = set l k (filledRegister (cardOf x vs))  -- SM?KL: the key goes to the register
-registersAfter (Close k) m l x vs = l
+registersAfter (Load k) m l x vs = set l k (filledRegister (cardOf x vs))  -- SM?KL: the key goes to the register, open
+registersAfter (Close k) m l x vs = mapped m (closedUnder (firstText vs)) l  -- SM?KF: just those whose KSL is it
 registersAfter (DeleteSlot k) m l x vs = mapped m (withoutSlot (firstText vs)) l  -- SM?KX: just those whose KSL is it
 registersAfter (DeleteKey k) m l x vs = set l k freeRegister  -- SM?KD: that register becomes free
 registersAfter (GetCard k) m l x vs = l
@@ -71,22 +71,25 @@ CanChangeSlots (GetCard k) p n s = Unit {0}
 CanChangeSlots ListSlots p n s = Unit {0}
 CanChangeSlots (QuerySlot k) p n s = Unit {0}
 
--- what makes the change of the register rows fit, and of SM?KX that the owners have the slot's number just at its
--- registers; it is known of each decision on the payload s
+-- what makes the sweep over the registers of a slot fit: the owners have the slot's number just at them
+abbrev pub CanSweep : ℕ → ℕ → List ℕ → List RegisterRow → List ℕ → Type 0
+CanSweep k m owners l s =
+    (k < 8)
+    × ((m ≤ 32)
+    × AreOwnedBy (k + 1) (firstText (valuesOf s)) (take m owners) (take m l))
+
+-- what makes the change of the register rows fit; it is known of each decision on the payload s
 abbrev pub CanChangeRegisters : Decision → Parts → ℕ → List ℕ → List RegisterRow → Supplement → List ℕ → Type 0
 CanChangeRegisters (Refuse r) p m owners l x s = Unit {0}
-CanChangeRegisters Reset p m owners l x s = Unit {0}
+CanChangeRegisters Reset p m owners l x s = m ≤ 32
 CanChangeRegisters (Start k) p m owners l x s = Unit {0}
 CanChangeRegisters (Open k) p m owners l x s = Unit {0}
 CanChangeRegisters (Load k) p m owners l x s =
     (k < 32)
     × (LoadParts p s
     × (length (cardOf x (valuesOf s)) ≤ 256))
-CanChangeRegisters (Close k) p m owners l x s = Unit {0}
-CanChangeRegisters (DeleteSlot k) p m owners l x s =
-    (k < 8)
-    × ((m ≤ 32)
-    × AreOwnedBy (k + 1) (firstText (valuesOf s)) (take m owners) (take m l))
+CanChangeRegisters (Close k) p m owners l x s = CanSweep k m owners l s
+CanChangeRegisters (DeleteSlot k) p m owners l x s = CanSweep k m owners l s
 CanChangeRegisters (DeleteKey k) p m owners l x s = k < 32
 CanChangeRegisters (GetCard k) p m owners l x s = Unit {0}
 CanChangeRegisters ListSlots p m owners l x s = Unit {0}

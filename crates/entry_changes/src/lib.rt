@@ -1,5 +1,5 @@
-// The rows after a decision (document 01, "Slots and registers"). The tables are changed in one place, and a row at
-// a time but for the two sweeps.
+// The rows after a decision (document 01, "Slots and registers"; document 02, N3). The tables are changed in one place,
+// and a row at a time but for the sweeps of GL?RS, SM?KF and SM?KX.
 use decide_parts::Decided;
 use decide_parts::Parts;
 use engine::Decision;
@@ -11,7 +11,7 @@ ghost use Prim.Native.Nat.{_≤_};
 ghost use lib.ListN.{length};
 ghost use Rattle.field_values.specs.Values.{valuesOf};
 ghost use Rattle.card_stored.specs.Stored.{inRow};
-ghost use Rattle.row_index.specs.Lent.{rowsWith};
+ghost use Rattle.row_index.specs.Lent.{markedRows};
 ghost use Rattle.decide_parts.specs.Parts.{pendingRow, cardOf, StartParts, LoadParts};
 ghost use Rattle.entry_changes.specs.Changes.{slotsAfter, registersAfter};
 ghost use Rattle.entry_changes.specs.Changes.{CanChangeSlots, CanChangeRegisters};
@@ -86,40 +86,47 @@ fn loaded_card(parts: Parts, supplement: Supplement, payload: &[u8]) -> [u8; 256
 }
 
 // Changes the cards of the register rows, the first register_count of them the caller's, by a decision on a request
-// with a payload; owners are the numbers of the slots that own them.
+// with a payload; owners are the numbers of the slots that own them. The marks after it.
 pub fn change_registers(
     decided: Decided,
     cards: &mut [[u8; 256]],
+    marks: [u8; 32],
     register_count: usize,
     owners: [usize; 32],
     supplement: Supplement,
     payload: &[u8],
-)
+) -> [u8; 32]
     requires { ⌜ (length (now cards) ≡ 32)
-        × CanChangeRegisters (decided .decision) (decided .parts) «register_count» owners (rowsWith (now cards))
-        supplement (now payload) ⌝ }
-    ensures { λ _. ⌜ rowsWith (now (cards .exit))
-        ≡ registersAfter (decided .decision) «register_count» (rowsWith (now (cards .entry))) supplement
+        × CanChangeRegisters (decided .decision) (decided .parts) «register_count» owners
+        (markedRows (now cards) marks) supplement (now payload) ⌝ }
+    ensures { λ after. ⌜ markedRows (now (cards .exit)) after
+        ≡ registersAfter (decided .decision) «register_count» (markedRows (now (cards .entry)) marks) supplement
         (valuesOf (now (payload .entry))) ⌝ }
 {
+    let mut after = marks;
     let decision = decided.decision;
     match decision {
+        Decision::Reset => register_tables::close_all(marks, register_count),
         Decision::Load(k) => {
             cards[k] = loaded_card(decided.parts, supplement, payload);
+            after[k] = 1;
+            after
         }
+        Decision::Close(k) => register_tables::close_owned(marks, owners, register_count, k + 1),
         Decision::DeleteSlot(k) => {
             register_tables::free_owned(cards, owners, register_count, k + 1);
+            register_tables::close_owned(marks, owners, register_count, k + 1)
         }
         Decision::DeleteKey(k) => {
             cards[k] = [0; 256];
+            after[k] = 0;
+            after
         }
         Decision::Refuse(_)
-        | Decision::Reset
         | Decision::Start(_)
         | Decision::Open(_)
-        | Decision::Close(_)
         | Decision::GetCard(_)
         | Decision::ListSlots
-        | Decision::QuerySlot(_) => {}
+        | Decision::QuerySlot(_) => after,
     }
 }

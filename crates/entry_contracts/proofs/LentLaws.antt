@@ -14,7 +14,7 @@ use Rattle.row_types.specs.declared.SlotRow.{SlotRow}
 use Rattle.row_types.specs.declared.RegisterRow.{RegisterRow}
 use Rattle.row_types.specs.declared.Supplement.{Supplement}
 use Rattle.row_types.specs.declared.Tables.{Tables}
-use Rattle.row_index.specs.Lent.{tablesWithCards}
+use Rattle.row_index.specs.Lent.{tablesWithMarks}
 use Rattle.row_index.proofs.LentLaws.{rows-again}
 use Rattle.decide_counts.specs.First.{firstRefusal}
 use Rattle.decide_counts.proofs.CountLaws.{slots-few, registers-few}
@@ -31,7 +31,7 @@ use Rattle.engine.specs.declared.Outcome.{Outcome}
 use Rattle.engine.specs.declared.Outcome.the-variants.{Accepted, Done, Refused}
 use Rattle.engine.proofs.AnswerLaws.{IsUnwritten, first-no-decides, refused-keeps, no-reply-exactly}
 use Rattle.engine.proofs.Counted.{counted}
-use Rattle.row_lending.specs.Tables.{overlay, freeSlots, freeRegisters, slotTable, registerTable, cardTable}
+use Rattle.row_lending.specs.Tables.{overlay, freeSlots, freeRegisters, slotTable, registerTable, cardTable, markTable}
 use Rattle.row_lending.proofs.OverlayLaws.{overlay-front, overlay-others}
 use Rattle.entry_contracts.specs.Numbers.{stateByte}
 use Rattle.entry_contracts.specs.Replies.{Replies}
@@ -48,10 +48,10 @@ register-places : length freeRegisters ≡ 32
 unfolding freeRegisters
 register-places = refl
 
--- ys and zs are the lent rows, and `loaded` the tables that they are loaded into, the registers as cards
+-- ys and zs are the lent rows, and `loaded` the tables that they are loaded into, the registers as cards and marks
 module _ (ys : List SlotRow) (zs : List RegisterRow) where
   abbrev pub loaded : Tables
-  loaded = tablesWithCards (slotTable ys) (length ys) (cardTable zs) (length zs)
+  loaded = tablesWithMarks (slotTable ys) (length ys) (cardTable zs) (markTable zs) (length zs)
 
   abbrev rows : Lent
   rows = record { slots = ys; registers = zs }

@@ -61,7 +61,7 @@ use Rattle.response_refusals.proofs.RefusalLaws.{can-tell}
 use Rattle.decide_parts.specs.Parts.{cardOf, HasParts}
 use Rattle.decide_parts.specs.declared.Parts.{Parts}
 use Rattle.response_requests.specs.Responding.{HasRoom, CanRespond}
-use Rattle.entry_changes.specs.Changes.{registersAfter, CanChangeSlots, CanChangeRegisters}
+use Rattle.entry_changes.specs.Changes.{registersAfter, CanChangeSlots, CanSweep, CanChangeRegisters}
 use Rattle.engine.proofs.Places.{filled-below}
 use Rattle.decide_counts.proofs.CountLaws.{slots-few, registers-few}
 use Rattle.entry_core.specs.Owners.{AreOwners}
@@ -186,9 +186,6 @@ module _ (t : Tables) (x : Supplement) (q : List ℕ) (room : ℕ) (owners : Lis
       let e : take (t .«register_count») owners ≡ map (ownerNumber (map keptName (slotRows t))) (registerRows t) = owned (y .counts) (y .sound) in
       rw e (owned-by-number (slotRows t) (and-first (everyRow isSlotSound (slotRows t)) _ (y .sound)) s k p (registerRows t))
 
-  deleted-at : (k : ℕ) → decisionOf k₀ ≡ DeleteSlot k → slotPlace (slotIn KX vs) (slotRows t) ≡ some k
-  deleted-at k e = found-at (slotIn KX vs) (slotRows t) k (asked-of k₀ (DeleteSlot k) e refl .known) (delete-slot-place k₀ k e)
-
   queried-at : (k : ℕ) → decisionOf k₀ ≡ QuerySlot k → slotPlace (slotIn KQ vs) (slotRows t) ≡ some k
   queried-at k e = found-at (slotIn KQ vs) (slotRows t) k (asked-of k₀ (QuerySlot k) e refl .known) (query-slot-place k₀ k e)
 
@@ -242,18 +239,25 @@ module _ (t : Tables) (x : Supplement) (q : List ℕ) (room : ℕ) (owners : Lis
   can-slots ListSlots e p h = tt
   can-slots (QuerySlot k) e p h = tt
 
+  -- SM?KF and SM?KX: the registers of the slot
+  can-sweep : (o : Command) (y : Asked k₀ o) (k : ℕ) → placeIn (slotRows t) (slotPlace (firstText vs) (slotRows t)) ≡ k → isPlace (slotPlace (firstText vs) (slotRows t)) ≡ true → CanSweep k (t .«register_count») owners (t .registers) (payloadOf q)
+  can-sweep o y k w f =
+      (slot-place o y k _ w (slot-below (firstText vs) (slotRows t) f), (registers-few (t .«slot_count») (t .«register_count») (y .counts), owned-at o y (firstText vs) k (found-at (firstText vs) (slotRows t) k f w)))
+
   pub can-registers : (d : Decision) → decisionOf k₀ ≡ d → (p : Parts) → HasParts d p (payloadOf q) → CanChangeRegisters d p (t .«register_count») owners (t .registers) x (payloadOf q)
   unfolding slotIn
   can-registers (Refuse r) e p h = tt
-  can-registers Reset e p h = tt
+  can-registers Reset e p h = registers-few (t .«slot_count») (t .«register_count») (asked-of k₀ Reset e refl .counts)
   can-registers (Start k) e p h = tt
   can-registers (Open k) e p h = tt
   can-registers (Load k) e p h =
       (load-low k e, (h, loaded-short k₀ k e))
-  can-registers (Close k) e p h = tt
+  can-registers (Close k) e p h =
+      let y = asked-of k₀ (Close k) e refl in
+      can-sweep KF y k (close-place k₀ k e) (y .known)
   can-registers (DeleteSlot k) e p h =
       let y = asked-of k₀ (DeleteSlot k) e refl in
-      (delete-slot-low k e, (registers-few (t .«slot_count») (t .«register_count») (y .counts), owned-at KX y (slotIn KX vs) k (deleted-at k e)))
+      can-sweep KX y k (delete-slot-place k₀ k e) (y .known)
   can-registers (DeleteKey k) e p h =
       let y = asked-of k₀ (DeleteKey k) e refl in
       register-place KD y k _ (delete-key-place k₀ k e) (filled-below (registerIn vs) (k₀ .registers) (y .filled))

@@ -1,7 +1,7 @@
 -- From the decision on a call to its answer, as the code puts it together: d is the decision, p the payload.
 use mathlib.Core.Path.{_≡_, refl, sym, ap, _∙_}
 use mathlib.Core.Bool.{true}
-use mathlib.Core.List.{List}
+use mathlib.Core.List.{List, map}
 use Prim.Native.Nat.{ℕ, _≤_}
 use lib.ListN.{length, take}
 use native.Mathlib.Omega.{arith}
@@ -13,7 +13,9 @@ use Rattle.row_types.specs.declared.Supplement.{Supplement}
 use Rattle.row_types.specs.declared.Tables.{Tables}
 use Rattle.row_types.specs.declared.SlotRow.{SlotRow}
 use Rattle.row_types.specs.declared.RegisterRow.{RegisterRow}
-use Rattle.row_index.specs.Lent.{tablesWith}
+use Rattle.row_types.specs.Registers.{closedRow}
+use Rattle.row_index.specs.Lent.{markedRows, rowsWith, tablesWith, tablesWithCards, tablesWithMarks}
+use Rattle.row_index.proofs.LentLaws.{cards-closed}
 use Rattle.engine.specs.Questions.{areCounts}
 use Rattle.engine.specs.Answers.{response, Responded, answerOf}
 use Rattle.engine.specs.Calls.{callIn, tablesAfter}
@@ -28,6 +30,7 @@ use Rattle.entry_changes.specs.Changes.{slotsAfter, registersAfter, CanChangeSl
 use Rattle.entry_core.specs.Owners.{AreOwners}
 use Rattle.entry_core.proofs.DoneBy.{outcome-is, response-is}
 use Rattle.entry_core.proofs.RowsAfter.{tables-are}
+use Rattle.entry_core.proofs.CardsTold.{can-told, response-told}
 use Rattle.entry_core.proofs.Fits.{can-respond, can-slots, can-registers}
 
 -- the commands whose response looks at the register rows change none
@@ -45,7 +48,11 @@ same-response (GetCard k) slots n R m x vs q = refl
 same-response ListSlots slots n R m x vs q = refl
 same-response (QuerySlot k) slots n R m x vs q = refl
 
--- handle_cards: R are the rows with the lent cards, owners the numbers of their owners
+-- the rows with cards and marks are told by their cards
+cards-left : (cards : List (List ℕ)) (marks : List ℕ) (l : List RegisterRow) → markedRows cards marks ≡ l → rowsWith cards ≡ map closedRow l
+cards-left cards marks l y = cards-closed cards marks ∙ ap (map closedRow) y
+
+-- handle_cards: R are the rows with the lent cards and marks, owners the numbers of their owners; cards and marks are those after it
 module _ (slots : List SlotRow) (n : ℕ) (R : List RegisterRow) (m : ℕ) (x : Supplement) (q : List ℕ) (room : ℕ) (g : Decided) (is : IsDecided g (decisionOf (callIn (tablesWith slots n R m) x q room)) (payloadOf q)) where
   abbrev d : Decision
   d = g .decision
@@ -57,8 +64,10 @@ module _ (slots : List SlotRow) (n : ℕ) (R : List RegisterRow) (m : ℕ) (x : 
   t = tablesWith slots n R m
 
   module _ (owners : List ℕ) (owned : areCounts n m ≡ true → AreOwners owners (take n slots) (take m R) m) where
-    pub responds : (p : List ℕ) → p ≡ payloadOf q → (l : List RegisterRow) → l ≡ registersAfter d m R x (valuesOf p) → CanRespond d (g .parts) (tablesWith slots n l m) owners x q room
-    responds p w l y = rw (y, w) (can-respond t x q room owners owned d (sym e) (g .parts) (is .parts-stand))
+    pub responds : (p : List ℕ) → p ≡ payloadOf q → (cards : List (List ℕ)) (marks : List ℕ) → markedRows cards marks ≡ registersAfter d m R x (valuesOf p) → CanRespond d (g .parts) (tablesWithCards slots n cards m) owners x q room
+    responds p w cards marks y =
+        rw (cards-left cards marks _ y, w)
+        (can-told slots n (registersAfter d m R x (valuesOf (payloadOf q))) m x q d (g .parts) owners room (can-respond t x q room owners owned d (sym e) (g .parts) (is .parts-stand)))
 
     pub slots-can : (p : List ℕ) → p ≡ payloadOf q → CanChangeSlots d (g .parts) n p
     slots-can p w = rw w (can-slots t x q room owners owned d (sym e) (g .parts) (is .parts-stand))
@@ -69,12 +78,13 @@ module _ (slots : List SlotRow) (n : ℕ) (R : List RegisterRow) (m : ℕ) (x : 
   pub outcome-right : (o : Outcome) → o ≡ outcomeFor d → o ≡ answerOf (callIn t x q room) .outcome
   outcome-right o w = w ∙ outcome-is (callIn t x q room) d (sym e)
 
-  pub rows-right : (p : List ℕ) → p ≡ payloadOf q → (u : List SlotRow) → u ≡ slotsAfter d n slots x (valuesOf p) → (l : List RegisterRow) → l ≡ registersAfter d m R x (valuesOf p)
-      → tablesWith u n l m ≡ tablesAfter t (answerOf (callIn t x q room))
-  rows-right p w u v l y = rw (v, y, w) (tables-are t x q room d (sym e))
+  pub rows-right : (p : List ℕ) → p ≡ payloadOf q → (u : List SlotRow) → u ≡ slotsAfter d n slots x (valuesOf p) → (cards : List (List ℕ)) (marks : List ℕ) → markedRows cards marks ≡ registersAfter d m R x (valuesOf p)
+      → tablesWithMarks u n cards marks m ≡ tablesAfter t (answerOf (callIn t x q room))
+  rows-right p w u v cards marks y = rw (v, y, w) (tables-are t x q room d (sym e))
 
-  pub responded : (p : List ℕ) → p ≡ payloadOf q → (l : List RegisterRow) → l ≡ registersAfter d m R x (valuesOf p) → (a b : List ℕ) (k : ℕ) → Wrote a 0 (responseFor d (tablesWith slots n l m) x q) b k → k ≤ length a
+  pub responded : (p : List ℕ) → p ≡ payloadOf q → (cards : List (List ℕ)) (marks : List ℕ) → markedRows cards marks ≡ registersAfter d m R x (valuesOf p) → (a b : List ℕ) (k : ℕ) → Wrote a 0 (responseFor d (tablesWithCards slots n cards m) x q) b k → k ≤ length a
       → Responded (answerOf (callIn t x q room)) a k b
-  responded p i l y a b k w h =
-      let e′ : responseFor d (tablesWith slots n l m) x q ≡ response (answerOf (callIn t x q room)) = rw y (same-response d slots n R m x (valuesOf p) q) ∙ response-is t x q room d (sym e) in
+  responded p i cards marks y a b k w h =
+      let c : responseFor d (tablesWithCards slots n cards m) x q ≡ responseFor d (tablesWith slots n (registersAfter d m R x (valuesOf p)) m) x q = rw (cards-left cards marks _ y) (response-told slots n (registersAfter d m R x (valuesOf p)) m x q d) in
+      let e′ : responseFor d (tablesWithCards slots n cards m) x q ≡ response (answerOf (callIn t x q room)) = c ∙ same-response d slots n R m x (valuesOf p) q ∙ response-is t x q room d (sym e) in
       (omega (arith, w .next) ∙ ap length e′, rw e′ at (from-start w (omega (arith, w .next))))

@@ -4,4 +4,5 @@ pub mod Asked
 pub mod RowsAfter
 pub mod Fits
 pub mod FoundLaws
+pub mod CardsTold
 pub mod HandleLaws

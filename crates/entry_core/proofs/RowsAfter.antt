@@ -62,7 +62,7 @@ module _ (t : Tables) (x : Supplement) (q : List ℕ) (room : ℕ) where
   pub tables-are : (d : Decision) → decisionOf c ≡ d → tablesFor d t x vs ≡ tablesAfter t (answerOf c)
   unfolding refused answered recordIn slotIn slotsPending slotsWithout
   tables-are (Refuse r) e = rw (refused-answer c r e) (same-tables (refused c r) (Refuse r) slots-kept registers-kept)
-  tables-are Reset e = same-tables (done Reset) Reset refl registers-kept ∙ ap (tablesAfter t) (effect-of c Reset e refl)
+  tables-are Reset e = same-tables (done Reset) Reset refl refl ∙ ap (tablesAfter t) (effect-of c Reset e refl)
   tables-are (Start k) e =
       let w = start-place c k e in
       let h : k < length (take n (t .slots)) = rw (← w) (session-below (slotIn KC vs) (c .slots) (asked-of c (Start k) e refl .spot)) in
@@ -74,7 +74,7 @@ module _ (t : Tables) (x : Supplement) (q : List ℕ) (room : ℕ) where
       let h : k < length (take m (t .registers)) = rw (← w) (card-below _ (c .registers) (asked-of c (Load k) e refl .home)) in
       same-tables (done (Load k)) (Load k) slots-kept (rw w (set-front m (t .registers) k _ h)) ∙ ap (tablesAfter t) (effect-of c (Load k) e refl)
   tables-are (Close k) e =
-      same-tables (done (Close k)) (Close k) (moved _ (slotIn KF vs) k (close-place c k e) (asked-of c (Close k) e refl .known)) registers-kept ∙ ap (tablesAfter t) (effect-of c (Close k) e refl)
+      same-tables (done (Close k)) (Close k) (moved _ (slotIn KF vs) k (close-place c k e) (asked-of c (Close k) e refl .known)) refl ∙ ap (tablesAfter t) (effect-of c (Close k) e refl)
   tables-are (DeleteSlot k) e =
       let w = delete-slot-place c k e in
       let h : k < length (take n (t .slots)) = rw (← w) (slot-below (slotIn KX vs) (c .slots) (asked-of c (DeleteSlot k) e refl .known)) in

@@ -1,14 +1,13 @@
-// Which key may vend (document 01, "Slots and registers": "a register's key may vend exactly when its slot is IDLE").
+// Which key may vend (document 02, N3: "a key is usable exactly when it is marked closed, whatever the slot's state").
 use row_types::Counts;
 use row_types::SlotRow;
-use row_types::SlotState;
 use row_types::Tables;
 ghost use mathlib.Core.Path.{_≡_};
 ghost use Prim.Native.Nat.{_-_, _≤_};
+ghost use lib.Dec.{eqb};
 ghost use lib.ListN.{length, getD};
-ghost use Rattle.row_types.specs.Slots.{hasState, freeSlot};
-ghost use Rattle.row_types.specs.declared.SlotState.the-variants.{Idle};
-ghost use Rattle.row_index.specs.Lent.{tablesWithCards};
+ghost use Rattle.row_types.specs.Registers.{closedMark};
+ghost use Rattle.row_index.specs.Lent.{tablesWithMarks};
 ghost use Rattle.engine.specs.Usable.{isUsable};
 
 // The number of a register's owner; 0 of a free register.
@@ -19,26 +18,33 @@ fn owner_of(owners: [usize; 32], register: usize) -> usize
     owners[register - 1]
 }
 
-// Whether the slot with a number, counted from 1, is IDLE.
-fn is_idle(slots: [SlotRow; 8], number: usize) -> bool
-    requires { ⌜ (1 ≤ number) × (number ≤ 8) ⌝ }
-    ensures { λ b. ⌜ b ≡ hasState Idle (getD slots (number - 1) freeSlot) ⌝ }
+// Whether a register is marked closed.
+fn is_closed(marks: [u8; 32], register: usize) -> bool
+    requires { ⌜ (1 ≤ register) × (register ≤ 32) ⌝ }
+    ensures { λ b. ⌜ b ≡ eqb (getD marks (register - 1) 0) closedMark ⌝ }
 {
-    slot_tests::has_state(slots[number - 1], SlotState::Idle)
+    marks[register - 1] == 0
 }
 
-// Whether the key in a register, counted from 1, may vend, over slot rows and lent cards.
-pub fn is_usable(slots: [SlotRow; 8], counts: Counts, cards: &[[u8; 256]], register: usize) -> bool
+// Whether the key in a register, counted from 1, may vend, over slot rows, lent cards and
+// marks.
+pub fn is_usable(
+    slots: [SlotRow; 8],
+    counts: Counts,
+    cards: &[[u8; 256]],
+    marks: [u8; 32],
+    register: usize,
+) -> bool
     requires { ⌜ length (now cards) ≡ 32 ⌝ }
-    ensures { λ b. ⌜ b
-        ≡ isUsable (tablesWithCards slots (counts .slots) (now (cards .entry)) (counts .registers)) register ⌝ }
+    ensures { λ b. ⌜ b ≡ isUsable
+        (tablesWithMarks slots (counts .slots) (now (cards .entry)) marks (counts .registers)) register ⌝ }
 {
     let n = counts.slots;
     let m = counts.registers;
     if !decide_counts::are_counts(n, m) {
         return false;
     }
-    let f = row_soundness::find(slots, n, &cards[..m]);
+    let f = row_soundness::find(slots, n, &cards[..m], marks);
     if !f.sound {
         return false;
     }
@@ -53,7 +59,7 @@ pub fn is_usable(slots: [SlotRow; 8], counts: Counts, cards: &[[u8; 256]], regis
     if owner == 0 {
         return false;
     }
-    is_idle(slots, owner)
+    is_closed(marks, register)
 }
 
 // The same over tables by value, whose cards are lent from here.
@@ -67,5 +73,6 @@ pub fn is_usable_in(tables: Tables, register: usize) -> bool
         registers: tables.register_count,
     };
     let cards = register_tables::cards_of(registers);
-    is_usable(slots, counts, &cards, register)
+    let marks = register_tables::marks_of(registers);
+    is_usable(slots, counts, &cards, marks, register)
 }

@@ -5,7 +5,7 @@ use mathlib.Core.Path.{_≡_}
 use mathlib.Core.Logic.{_↔_, _⊎_}
 use mathlib.Core.List.{List, _∷_, _++_}
 use Rattle.history.specs.History.{Never, Since}
-use Rattle.history.specs.Model.{Tables, used, State, key, Item, _⇒_, slotRow, registerRow}
+use Rattle.history.specs.Model.{Tables, used, State, Carried, key, Item, _⇒_, slotRow, registerRow}
 use Rattle.history.specs.Model.{kc, kr, kl, kf, kx, kd, rs, done, loaded}
 
 -- x is an accepted load of g and r into register n under slot s; c is the card that it answered, as a row holds it:
@@ -49,9 +49,10 @@ pub record Live (h : List Item) (g r : List ℕ) (n : ℕ) (s c : List ℕ) : Ty
 abbrev pub InSession : List ℕ → List Item → Type 0
 InSession s h = Since (Opens s) (Ends s) h
 
--- in the rows a key of g and r stands in register n, under slot s, and the bytes of its row are c
-abbrev pub StandsIn : Tables → List ℕ → List ℕ → ℕ → List ℕ → List ℕ → Type 0
-StandsIn t g r n s c = registerRow t n ≡ key g r s c
+-- in the rows a key of g and r stands in register n, under slot s, and the bytes of its row are c, whatever it carries
+pub record StandsIn (t : Tables) (g r : List ℕ) (n : ℕ) (s c : List ℕ) : Type 0 where
+  pub carries : Carried
+  pub is : registerRow t n ≡ key g r s c carries
 
 pub record Stands (t : Tables) (g r : List ℕ) : Type 0 where
   pub number : ℕ

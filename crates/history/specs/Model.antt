@@ -1,6 +1,6 @@
 -- What demand 3 speaks of: rows, requests and answers, as far as it reads them (document 01, The words of demand 3).
 use Prim.Native.Nat.{ℕ, zero, suc}
-use mathlib.Core.Bool.{cond}
+use mathlib.Core.Bool.{Bool, false, cond}
 use mathlib.Core.List.{List, map}
 use lib.ListN.{getD, set, replicate}
 use Rattle.byte_strings.specs.Strings.{sameBytes}
@@ -13,10 +13,14 @@ pub data Slot : Type 0 where
   free : Slot
   used : List ℕ → State → Slot
 
--- a register row: free, or a card's SGC, KRN and KSL and all bytes of the row
+-- what a key carries beside its card: its mark, open or closed (document 02, N3)
+pub record Carried : Type 0 where
+  pub isOpen : Bool
+
+-- a register row: free, or a card's SGC, KRN and KSL and all bytes of the row, and what the key carries
 pub data Register : Type 0 where
   vacant : Register
-  key : List ℕ → List ℕ → List ℕ → List ℕ → Register
+  key : List ℕ → List ℕ → List ℕ → List ℕ → Carried → Register
 
 pub record Tables : Type 0 where
   pub slots : List Slot
@@ -71,15 +75,31 @@ putRegister t i v = record { slots = t .slots; registers = set (t .registers) i 
 -- SM?KX of s: its row becomes free, and each register whose KSL is s
 unfoldable pub dropKey : List ℕ → Register → Register
 dropKey s vacant = vacant
-dropKey s (key g r u c) = cond (sameBytes u s) vacant (key g r u c)
+dropKey s (key g r u c q) = cond (sameBytes u s) vacant (key g r u c q)
 
 unfoldable pub dropSlot : Tables → List ℕ → ℕ → Tables
 dropSlot t s i = record { slots = set (t .slots) i free; registers = map (dropKey s) (t .registers) }
 
--- GL?RS: each slot that is not free becomes IDLE
+-- what a key carries once it is closed
+abbrev pub close : Carried → Carried
+close q = record { isOpen = false }
+
+-- SM?KF of s: its row becomes IDLE, and each key whose KSL is s is closed (document 02, N3)
+unfoldable pub closeKey : List ℕ → Register → Register
+closeKey s vacant = vacant
+closeKey s (key g r u c q) = key g r u c (cond (sameBytes u s) (close q) q)
+
+unfoldable pub finish : Tables → List ℕ → ℕ → Tables
+finish t s i = record { slots = set (t .slots) i (used s idle); registers = map (closeKey s) (t .registers) }
+
+-- GL?RS: each slot that is not free becomes IDLE, and each key is closed (document 02, N3)
 unfoldable pub stopped : Slot → Slot
 stopped free = free
 stopped (used s a) = used s idle
 
+unfoldable pub closeAny : Register → Register
+closeAny vacant = vacant
+closeAny (key g r u c q) = key g r u c (close q)
+
 unfoldable pub reset : Tables → Tables
-reset t = record { slots = map stopped (t .slots); registers = t .registers }
+reset t = record { slots = map stopped (t .slots); registers = map closeAny (t .registers) }

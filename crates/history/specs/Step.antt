@@ -2,6 +2,7 @@
 -- This is all that demand 3 needs to know of an engine.
 use Prim.Native.Nat.{ℕ, suc, _<_}
 use mathlib.Core.Path.{_≡_}
+use mathlib.Core.Bool.{true}
 use mathlib.Core.Logic.{_≢_}
 use mathlib.Core.List.{List}
 use lib.ListN.{getD, length}
@@ -12,6 +13,7 @@ use Rattle.history.specs.Model.{
   idle,
   free,
   used,
+  Carried,
   vacant,
   key,
   Tables,
@@ -33,6 +35,7 @@ use Rattle.history.specs.Model.{
   putSlot,
   putRegister,
   dropSlot,
+  finish,
   reset,
 }
 
@@ -43,9 +46,10 @@ pub data SessionPlace (t : Tables) (s : List ℕ) (i : ℕ) : Type 0 where
 
 -- the row where a key of g and r goes: the one that holds it, or a free one where none does
 pub data StorePlace (t : Tables) (g r : List ℕ) (i : ℕ) : Type 0 where
-  held : (s c : List ℕ) → getD (t .registers) i vacant ≡ key g r s c → StorePlace t g r i
+  held : (s c : List ℕ) (q : Carried) → getD (t .registers) i vacant ≡ key g r s c q → StorePlace t g r i
   spare : getD (t .registers) i vacant ≡ vacant
-      → ((j : ℕ) (s c : List ℕ) → getD (t .registers) j vacant ≢ key g r s c) → StorePlace t g r i
+      → ((j : ℕ) (s c : List ℕ) (q : Carried) → getD (t .registers) j vacant ≢ key g r s c q)
+      → StorePlace t g r i
 
 -- the tables before an item of the list, the item, and the tables after it
 pub data Step (t : Tables) : Item → Tables → Type 0 where
@@ -56,10 +60,10 @@ pub data Step (t : Tables) : Item → Tables → Type 0 where
   opens : (s : List ℕ) (i : ℕ) → slotRow t i ≡ used s pending
       → Step t (kr s ⇒ done) (putSlot t i (used s loading))
   loads : (s g r c : List ℕ) (k i : ℕ) → slotRow t k ≡ used s loading → i < length (t .registers) → StorePlace t g r i
-      → Step t (kl s g r ⇒ loaded (suc i) c) (putRegister t i (key g r s c))
+      → Step t (kl s g r ⇒ loaded (suc i) c) (putRegister t i (key g r s c (record { isOpen = true })))
   closes : (s : List ℕ) (i : ℕ) (a : State) → a ≢ idle → slotRow t i ≡ used s a
-      → Step t (kf s ⇒ done) (putSlot t i (used s idle))
+      → Step t (kf s ⇒ done) (finish t s i)
   deletes-slot : (s : List ℕ) (i : ℕ) (a : State) → slotRow t i ≡ used s a → Step t (kx s ⇒ done) (dropSlot t s i)
-  deletes-key : (i : ℕ) (g r s c : List ℕ) → getD (t .registers) i vacant ≡ key g r s c
+  deletes-key : (i : ℕ) (g r s c : List ℕ) (q : Carried) → getD (t .registers) i vacant ≡ key g r s c q
       → Step t (kd (suc i) ⇒ done) (putRegister t i vacant)
   resets : Step t (rs ⇒ done) (reset t)

@@ -1,10 +1,11 @@
-// One register row (document 01, "Slots and registers"): whether it is free, and a free row.
+// One register row (document 01, "Slots and registers"): whether it is free, whether all of it is zero, and a free row.
 use row_types::RegisterRow;
 use text_classes::Class;
 ghost use mathlib.Core.Path.{_≡_};
 ghost use Rattle.text_classes.specs.Classes.{areAll};
 ghost use Rattle.text_classes.specs.declared.Class.the-variants.{Zero};
 ghost use Rattle.row_types.specs.Registers.{isVacant, freeRegister};
+ghost use Rattle.register_rows.specs.ZeroRegisters.{isZeroRegister};
 
 // Whether every byte of a card's space is zero. A card starts with a letter, so the first byte mostly tells.
 pub fn is_clear(card: &[u8; 256]) -> bool
@@ -23,9 +24,22 @@ pub fn is_vacant(row: RegisterRow) -> bool
     is_clear(&row.card)
 }
 
+// Whether every byte of the row is zero, its mark too.
+pub fn is_zero_register(row: RegisterRow) -> bool
+    ensures { λ a. ⌜ a ≡ isZeroRegister row ⌝ }
+{
+    if row.mark != 0 {
+        return false;
+    }
+    is_clear(&row.card)
+}
+
 // A free row.
 pub fn free_register() -> RegisterRow
     ensures { λ a. ⌜ a ≡ freeRegister ⌝ }
 {
-    RegisterRow { card: [0; 256] }
+    RegisterRow {
+        card: [0; 256],
+        mark: 0,
+    }
 }

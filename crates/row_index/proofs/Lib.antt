@@ -5,6 +5,7 @@ pub mod KeyLaws
 pub mod NumberOf
 pub mod LentLoops
 pub mod OwnerLaws
+pub mod SessionLaws
 pub mod LentLaws
 pub mod NumberLaws
 pub mod KeyReadings

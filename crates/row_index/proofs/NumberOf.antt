@@ -64,3 +64,16 @@ module _ {A : Type 0} (f : A → Bool) where
       go : (o : Option ℕ) → firstFrom f 0 l ≡ o → after o ≡ k + 1 → firstFrom f 0 l ≡ some k
       go none q w = absurd (omega arith)
       go (some j) q w = let z : j ≡ k = omega arith in q ∙ ap (λ (n : ℕ). some n) z
+
+-- no number is above that of the last
+module _ {A : Type 0} (f : A → Bool) where
+  low-from : (l : List A) (i : ℕ) → orZero (firstFrom f (i + 1) l) ≤ i + length l
+  low-from [] i = omega arith
+  low-from (x ∷ xs) i = go (f x) (low-from xs (i + 1))
+    where
+      go : (b : Bool) → orZero (firstFrom f (i + 1 + 1) xs) ≤ i + 1 + length xs → orZero (cond b (some (i + 1)) (firstFrom f (i + 1 + 1) xs)) ≤ i + length (x ∷ xs)
+      go true q = omega arith
+      go false q = omega (arith, q)
+
+  pub number-low : (l : List A) → numberOf f l ≤ length l
+  number-low l = let k : numberOf f l ≤ 0 + length l = low-from l 0 in omega (arith, k)

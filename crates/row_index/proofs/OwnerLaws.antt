@@ -3,10 +3,10 @@ use mathlib.Core.Path.{_≡_, refl, sym, ap, _∙_}
 use mathlib.Core.Bool.{Bool, true, false, not, cond, _&&_}
 use mathlib.Core.List.{List, [], _∷_, map}
 use mathlib.Core.Option.{some}
-use Prim.Native.Nat.{ℕ, zero, suc, _+_}
+use Prim.Native.Nat.{ℕ, zero, suc, _+_, _≤_}
 use native.Mathlib.Omega.{arith}
 use lib.Dec.{eqb}
-use lib.ListN.{getD}
+use lib.ListN.{length, getD}
 use borrow.Author.Tests.{eq-eqb, ne-eqb}
 use Rattle.byte_strings.specs.Strings.{sameBytes}
 use Rattle.byte_strings.proofs.Flags.{nope, and-second}
@@ -25,7 +25,7 @@ use Rattle.row_types.proofs.ListLaws.{found}
 use Rattle.row_index.specs.Found.{numberOf, ownerNumber, isThe, AreOwnedBy}
 use Rattle.row_index.proofs.Readings.{some-read, first-read}
 use Rattle.row_index.proofs.NameLaws.{named-called}
-use Rattle.row_index.proofs.NumberOf.{some-number, number-at, place-at}
+use Rattle.row_index.proofs.NumberOf.{some-number, number-at, place-at, number-low}
 
 module _ (S : List SlotRow) (sound : everyRow isSlotSound S ≡ true) where
   -- the place of a slot is that of its kept name
@@ -97,6 +97,15 @@ module _ (S : List SlotRow) (sound : everyRow isSlotSound S ≡ true) where
         go : (t : Bool) → isVacant r ≡ t → cond t 0 (numberOf (isCalled (attributeOf KSL r)) (map keptName S)) ≡ k + 1 → (isVacant r ≡ false) × (firstFrom (isNamed (attributeOf KSL r)) 0 S ≡ some k)
         go true o w = absurd (omega arith)
         go false o w = (o, named-first (attributeOf KSL r) ∙ place-at (isCalled (attributeOf KSL r)) (map keptName S) k w)
+
+-- the number of an owner is that of one of the names, or 0
+pub owner-low : (names : List (List ℕ)) (r : RegisterRow) → ownerNumber names r ≤ length names
+unfolding ownerNumber
+owner-low names r = go (isVacant r)
+  where
+    go : (t : Bool) → cond t 0 (numberOf (isCalled (attributeOf KSL r)) names) ≤ length names
+    go true = omega arith
+    go false = number-low (isCalled (attributeOf KSL r)) names
 
 -- the numbers of rows, one by one
 pub owner-at : (names : List (List ℕ)) (R : List RegisterRow) (j : ℕ) → getD (map (ownerNumber names) R) j 0 ≡ ownerNumber names (getD R j freeRegister)

@@ -1,7 +1,8 @@
 -- steps of walks, of any function
 pub mod Lends
 pub mod Elements
--- lists laid over lists
+pub mod Offsets
+-- lists put into lists, and laid over them
 pub mod Over
 pub mod OverlayLaws
 -- load and store, of any type of rows

@@ -1,8 +1,8 @@
--- A type of rows that a caller lends, a type of cells, and tables of N cells by value: what the walks of `Loads.antt` and `Stores.antt` ask of them. A cell is a row, or the one field that a row has (`Within`). It holds of any of them, of any size, and of any N.
+-- A type of rows that a caller lends, a type of cells, and tables of N cells by value: what the walks of `Loads.antt` and `Stores.antt` ask of them. A cell is a row, or a field of one (`Within`). It holds of any of them, of any size, and of any N.
 -- Assumes nothing, but for `table-makes`, `table-typed` and what is said of a walk, which assume `Given`.
 use mathlib.Core.Path.{_≡_, refl, sym, _∙_, ap, subst}
-use Prim.Native.Nat.{ℕ, zero, suc, _<_, _^_}
-use native.Mathlib.Nat.{not-suc-le-zero, le-of-suc-le-suc}
+use Prim.Native.Nat.{ℕ, zero, suc, _<_, _≤_, _^_}
+use native.Mathlib.Nat.{not-suc-le-zero, le-of-suc-le-suc, le-refl}
 use mathlib.Core.List.{List, [], _∷_, map}
 use lib.Dec.{T, ltb}
 use lib.ListN.{length, getD, set, length-set, length-map, List·getD-map}
@@ -28,8 +28,9 @@ use denote.Struct.Declared.{Declared, fields, shape}
 use denote.Struct.Declared as declared
 use denote.Struct.Laws as LL
 use Rattle.row_types.proofs.ListLaws.{map-set}
+use Rattle.row_lending.proofs.Offsets.{Offset, product}
 
--- A type of cells: a cell's machine value, what is known of it, a cell to stand for none, and that its size is a number of the machine's
+-- A type of cells: a cell's machine value, what is known of it, a cell to stand for none, and how the code makes a cell's offset in a table
 pub record CellType : Type 2 where
   pub type : RattleType
   pub val : type .Denot → Val
@@ -38,7 +39,7 @@ pub record CellType : Type 2 where
   pub makes : {M : Type 1} (𝓤 : URA M) (H : Heap 𝓤) (A : Atoms 𝓤) → Given 𝓤 H A → Makes 𝓤 H A type (Is type)
   pub still : type .exit yes ≡ unchanged
   pub none : type .Denot
-  pub small : T (ltb (size (lone (type .mir))) (2 ^ 64))
+  pub offset : Offset (size (lone (type .mir)))
 
 -- one value of these types is a value of the one type
 typed-one : (τs : List Ty) (v : Val) → Typed τs (v ∷ []) → T (hasTy (lone τs) v) × WT v
@@ -187,7 +188,7 @@ module _ (ρ : RowType) where
     makes = λ 𝓤 H A W. LL.makes (ρ .type) (ρ .plain) 𝓤 H A;
     still = LL.still (ρ .type) (ρ .copy) yes;
     none = ρ .none;
-    small = ρ .small;
+    offset = product (ρ .small);
   }
 
   -- a table of them that is a field of a struct
@@ -200,31 +201,31 @@ module _ (ρ : RowType) where
   pub field-table : (N : ℕ) (rs : List Row) (vs : List Val) → Is (Array (Struct (shape (ρ .type))) N) (map (ρ .type .to) rs) vs → Is (table row-cell N) rs vs
   field-table N rs vs f = (f .0, ((f .1 .0 .0, sym (length-map rs (ρ .type .to)) ∙ f .1 .0 .1), each-field rs (f .0) (f .1 .1)))
 
--- A row that is nothing but a cell: the cell of a row and the row of a cell; the way in the code from the row to its cell, which lies `at` the row's own offset; and that the cell is read and overwritten there
+-- A cell within a row: the cell of a row, and the row with a cell in its place; the way in the code from the row to its cell, and where it lies `at` from the row's own offset; and that the cell is read and overwritten there
 pub record Within (ρ : RowType) (ε : CellType) : Type 2 where
   pub path : List PStep
   pub cell : Row ρ → Cell ε
-  pub row : Cell ε → Row ρ
+  pub row : Row ρ → Cell ε → Row ρ
   pub cell-is : (r : Row ρ) → IsRow ρ r → IsCell ε (cell r)
-  pub row-is : (c : Cell ε) → IsCell ε c → IsRow ρ (row c)
-  pub size-is : cellSize ε ≡ rowSize ρ
+  pub row-is : (r : Row ρ) (c : Cell ε) → IsRow ρ r → IsCell ε c → IsRow ρ (row r c)
+  pub size-is : cellSize ε ≤ rowSize ρ
   pub at : ℕ → ℕ
   pub finds : {M : Type 1} {𝓤 : URA M} {H : Heap 𝓤} {A : Atoms 𝓤} {K : Type 0} {W : Given 𝓤 H A} {Γ : List (Item 𝓤)} {E : Env 𝓤 H} → K → {b o : ℕ} → Walks K W Γ E (rowTy ρ, b, o) path (cellTy ε, b, at o)
   pub looks : {M : Type 1} {𝓤 : URA M} {H : Heap 𝓤} {A : Atoms 𝓤} {K : Type 0} {W : Given 𝓤 H A} {Γ : List (Item 𝓤)} → K → (n : ℕ) {q : Share} {b o : ℕ} (r : Row ρ)
       → nth 𝓤 H A n Γ ≡ ‵ (fat q (rawTy (rowTy ρ)) b o (rowVal ρ r)) → Reads K W Γ (cellTy ε) b (at o) (cellVal ε (cell r))
   pub stores : {M : Type 1} {𝓤 : URA M} {H : Heap 𝓤} {A : Atoms 𝓤} {K : Type 0} {W : Given 𝓤 H A} {Γ : List (Item 𝓤)} → K → (n : ℕ) {b o : ℕ} (r : Row ρ) (c : Cell ε)
       → nth 𝓤 H A n Γ ≡ ‵ (fat fullShare (rawTy (rowTy ρ)) b o (rowVal ρ r)) → T (hasTy (cellTy ε) (cellVal ε c)) × WT (cellVal ε c)
-      → Writes K W Γ (cellTy ε) b (at o) (cellVal ε c) (put 𝓤 H A n (‵ (fat fullShare (rawTy (rowTy ρ)) b o (rowVal ρ (row c)))) Γ)
+      → Writes K W Γ (cellTy ε) b (at o) (cellVal ε c) (put 𝓤 H A n (‵ (fat fullShare (rawTy (rowTy ρ)) b o (rowVal ρ (row r c)))) Γ)
 
 -- a row's cell is the row
 abbrev pub itself : (ρ : RowType) → Within ρ (row-cell ρ)
 itself ρ = record {
   path = [];
   cell = λ r. r;
-  row = λ c. c;
+  row = λ r c. c;
   cell-is = λ r is. is;
-  row-is = λ c is. is;
-  size-is = refl;
+  row-is = λ r c r-is c-is. c-is;
+  size-is = le-refl (rowSize ρ);
   at = λ o. o;
   finds = λ t. stop t;
   looks = λ t n r e. look-raw t n e;

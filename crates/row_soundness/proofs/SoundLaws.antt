@@ -1,4 +1,4 @@
--- The tests of question 3 in turn, each with what the code knows where it answers as premises: S are the slot rows, R the register rows.
+-- The tests of question 3 in turn, each with what the code knows where it answers as premises: R are the register rows, as far as their cards tell them.
 use mathlib.Core.Path.{_≡_, refl, sym, ap, _∙_}
 use mathlib.Core.Bool.{Bool, true, false, not, _&&_, and-true}
 use mathlib.Core.List.{List, [], _∷_, map}
@@ -10,12 +10,13 @@ use borrow.Author.Tests.{not-true, not-false}
 use Rattle.byte_strings.proofs.Flags.{and-first, and-second}
 use Rattle.row_types.specs.Lists.{everyRow, distinctRows}
 use Rattle.row_types.specs.Slots.{isSlotSound, isSameSlot}
-use Rattle.row_types.specs.Registers.{isRegisterSound, isSameKey}
+use Rattle.row_types.specs.Registers.{isRegisterSound, isSameKey, isClosed}
 use Rattle.row_types.specs.Index.{keptName, isSameName, isOwnedBy, keyNumber, isSameNumber}
-use Rattle.row_types.specs.Sound.{isOwned, areSound}
+use Rattle.row_types.specs.Sound.{isOwned, isMarkSound, areSound}
 use Rattle.row_types.specs.declared.SlotRow.{SlotRow}
 use Rattle.row_types.specs.declared.RegisterRow.{RegisterRow}
 use Rattle.row_index.specs.Found.{ownerNumber}
+use Rattle.row_index.specs.Lent.{rowsWith}
 use Rattle.register_keys.specs.Judged.{isSoundUnder}
 use Rattle.row_index.proofs.NameLaws.{distinct-names, every-owned}
 use Rattle.row_index.proofs.KeyLaws.{distinct-keys}
@@ -53,7 +54,16 @@ between-false true true c e = e
 between-false true false c e = refl
 between-false false b c e = refl
 
-module _ (slots : List SlotRow) (n : ℕ) (R : List RegisterRow) (a : Bool) (p : a ≡ everyRow isSlotSound (take n slots)) (f : Bool) where
+-- cards alone are those of closed rows, whose marks are sound
+pub closed-sound : (S : List SlotRow) (cards : List (List ℕ)) → everyRow (isMarkSound S) (rowsWith cards) ≡ true
+unfolding isMarkSound isClosed
+closed-sound S [] = refl
+closed-sound S (c ∷ cs) = closed-sound S cs
+
+module _ (slots : List SlotRow) (n : ℕ) (cards : List (List ℕ)) (a : Bool) (p : a ≡ everyRow isSlotSound (take n slots)) (f : Bool) where
+  abbrev R : List RegisterRow
+  R = rowsWith cards
+
   pub slots-unsound : not a ≡ true → f ≡ false → f ≡ areSound (take n slots) R
   unfolding areSound
   slots-unsound o g = g ∙ sym (rw (← p, not-true a o))
@@ -84,7 +94,7 @@ module _ (slots : List SlotRow) (n : ℕ) (R : List RegisterRow) (a : Bool) (p :
       unfolding areSound
       registers-unsound j g =
           let e = between-false (everyRow isRegisterSound R) (distinctRows isSameKey R) (everyRow (isOwned (take n slots)) R) (both-read ∙ not-true c j) in
-          g ∙ sym (rw (sound-slots, names-judged, not-false b i, e))
+          g ∙ sym (rw (sound-slots, names-judged, not-false b i, closed-sound (take n slots) cards, and-true (everyRow (isOwned (take n slots)) R), e))
 
       module _ (j : not c ≡ false) (m : ℕ) (keys : List ℕ) (v : c ≡ true → take m keys ≡ map keyNumber R) (d : Bool) (s : d ≡ distinctRows isSameNumber (take m keys)) where
         both-true : (everyRow isRegisterSound R && everyRow (isOwned (take n slots)) R) ≡ true
@@ -100,7 +110,7 @@ module _ (slots : List SlotRow) (n : ℕ) (R : List RegisterRow) (a : Bool) (p :
         unfolding areSound
         keys-judged =
             let k : distinctRows isSameKey R ≡ d = distinct-keys R sound-registers ∙ ap (distinctRows isSameNumber) (sym (v (not-false c j))) ∙ sym s in
-            sym (rw (sound-slots, names-judged, not-false b i, sound-registers, k, owned-registers, and-true d))
+            sym (rw (sound-slots, names-judged, not-false b i, sound-registers, k, owned-registers, closed-sound (take n slots) cards, and-true d))
 
         pub keys-alike : not d ≡ true → f ≡ false → f ≡ areSound (take n slots) R
         keys-alike y g = g ∙ sym (not-true d y) ∙ keys-judged

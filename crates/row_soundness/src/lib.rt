@@ -1,6 +1,6 @@
 // Question 3 (document 01, "Questions in order"): whether the rows are sound. Rows that are sound by themselves are
-// compared by their names and keys alone; what is found of the registers serves the questions after it, so that no
-// card is searched again.
+// compared by their names and keys alone, and their marks judged by their owners; what is found of the registers serves
+// the questions after it, so that no card is searched again.
 use register_keys::Findings;
 use row_types::SlotRow;
 ghost use mathlib.Core.Path.{_≡_};
@@ -11,7 +11,7 @@ ghost use lib.ListN.{length, take};
 ghost use Rattle.row_types.specs.Sound.{areSound};
 ghost use Rattle.row_types.specs.Index.{keptName, keyNumber};
 ghost use Rattle.row_index.specs.Found.{ownerNumber};
-ghost use Rattle.row_index.specs.Lent.{rowsWith};
+ghost use Rattle.row_index.specs.Lent.{rowsWith, markedRows};
 
 // Of rows that are not sound nothing is told.
 pub fn unsound() -> Findings
@@ -24,9 +24,9 @@ pub fn unsound() -> Findings
     }
 }
 
-// Whether the first slot_count slot rows and the register rows with these cards are sound; and where they are, the
-// keys of the registers and the numbers of their slots.
-pub fn find(slots: [SlotRow; 8], slot_count: usize, cards: &[[u8; 256]]) -> Findings
+// Whether the first slot_count slot rows and the register rows with these cards are sound, as far as the cards tell it;
+// and where they are, the keys of the registers and the numbers of their slots.
+fn find_keys(slots: [SlotRow; 8], slot_count: usize, cards: &[[u8; 256]]) -> Findings
     requires { ⌜ («slot_count» ≤ 8) × (length (now cards) ≤ 32) ⌝ }
     ensures { λ f. ⌜ f .sound ≡ areSound (take «slot_count» slots) (rowsWith (now (cards .entry))) ⌝ }
     ensures keys { λ f. ⌜ (f .sound ≡ true
@@ -51,4 +51,31 @@ pub fn find(slots: [SlotRow; 8], slot_count: usize, cards: &[[u8; 256]]) -> Find
         return unsound();
     }
     judged
+}
+
+// The same of the register rows with these cards and marks.
+pub fn find(
+    slots: [SlotRow; 8],
+    slot_count: usize,
+    cards: &[[u8; 256]],
+    marks: [u8; 32],
+) -> Findings
+    requires { ⌜ («slot_count» ≤ 8) × (length (now cards) ≤ 32) ⌝ }
+    ensures { λ f. ⌜ f .sound ≡ areSound (take «slot_count» slots) (markedRows (now (cards .entry)) marks) ⌝ }
+    ensures keys { λ f. ⌜ (f .sound ≡ true
+        → take (length (now (cards .entry))) (f .keys) ≡ map keyNumber (markedRows (now (cards .entry)) marks)) ⌝ }
+    ensures owners { λ f. ⌜ (f .sound ≡ true
+        → take (length (now (cards .entry))) (f .owners)
+        ≡ map (ownerNumber (map keptName (take «slot_count» slots))) (markedRows (now (cards .entry)) marks)) ⌝ }
+{
+    let found = find_keys(slots, slot_count, cards);
+    if !found.sound {
+        return unsound();
+    }
+    let states = slot_tables::states_of(slots);
+    let owners = found.owners;
+    if !register_marks::are_marks_right(states, owners, marks, cards.len()) {
+        return unsound();
+    }
+    found
 }

@@ -96,6 +96,11 @@ module _ {A B : Type 0} (f : A → B) (d : A) (l : List A) (k : List B) (i m : �
   pub fill-ended : m ≤ i → k ≡ x
   fill-ended h = rw (places-end l i m z h) at inv
 
+-- where what is stored is read of the row as it stands
+pub field-turn : {A B : Type 0} (f : A → B) (d : A) (l : List A) (k : List B) (i m : ℕ) (x : List B) → sets k i (map f (drop i l)) ≡ x → length l ≡ m → i < m
+    → sets (set k i (f (getD l i d))) (i + 1) (map f (drop (i + 1) l)) ≡ x
+field-turn f d l k i m x inv z h = fill-turn f d l k i m x inv z h (f (getD l i d)) refl
+
 -- a sweep in place over the first n of m places: u is the table so far, l what it was
 pub record Sweeping {A : Type 0} (f : A → A) (n m : ℕ) (l u : List A) (i : ℕ) : Type 0 where
   pub swept : take i (take n u) ++ map f (drop i (take n u)) ≡ map f (take n l)

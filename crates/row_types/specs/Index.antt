@@ -1,5 +1,5 @@
 -- What question 3 compares instead of whole rows, where each row is sound by itself: the slots' names as they are
--- kept, and each register's key as a number.
+-- kept and their states, and each register's key as a number.
 use Prim.Native.Nat.{ℕ, _+_, _*_}
 use mathlib.Core.Bool.{Bool, cond, not, _&&_, _||_}
 use mathlib.Core.List.{List}
@@ -16,6 +16,10 @@ use Rattle.row_types.specs.declared.RegisterRow.{RegisterRow}
 -- a name as it is kept, zeros after it
 abbrev pub keptName : SlotRow → List ℕ
 keptName r = r .kmcid
+
+-- the number of its state
+abbrev pub stateIn : SlotRow → ℕ
+stateIn r = r .state
 
 -- the kept name is s; an empty s names none
 unfoldable pub isCalled : List ℕ → List ℕ → Bool

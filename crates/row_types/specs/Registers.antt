@@ -1,7 +1,9 @@
--- Register rows (document 01, Slots and registers): a stored card, or free.
+-- Register rows (document 01, Slots and registers): a stored card with the mark of its key, open or closed (document
+-- 02, N3); or free. All but the mark itself is read of the card alone.
 use Prim.Native.Nat.{ℕ}
 use mathlib.Core.Bool.{Bool, cond, not, _&&_, _||_}
 use mathlib.Core.List.{List, [], _∷_}
+use lib.Dec.{eqb}
 use lib.ListN.{replicate}
 use Rattle.byte_strings.specs.Strings.{sameBytes}
 use Rattle.byte_strings.specs.Texts.{all}
@@ -12,7 +14,8 @@ use Rattle.card_entries.specs.Entries.{valueOf, orElse}
 use Rattle.card_stored.specs.Stored.{isStored, inRow}
 use Rattle.row_types.specs.declared.RegisterRow.{RegisterRow}
 
--- every byte of the row is zero
+-- free: every byte of the card's space is zero. Of sound rows the mark is zero then too (`free-is-closed`,
+-- proofs/SoundLaws.antt)
 unfoldable pub isVacant : RegisterRow → Bool
 isVacant r = areAll Zero (r .card)
 
@@ -36,13 +39,34 @@ isRegisterSound r = isVacant r || isStored (r .card)
 unfoldable pub isSameKey : RegisterRow → RegisterRow → Bool
 isSameKey a b = not (isVacant a) && isKeyOf (attributeOf SGC a) (attributeOf KRN a) b
 
--- a freed row
-unfoldable pub freeRegister : RegisterRow
-freeRegister = record { card = replicate 256 0 }
+-- the numbers of the marks
+abbrev pub closedMark : ℕ
+closedMark = 0
 
--- a row filled with a stored card
+abbrev pub openMark : ℕ
+openMark = 1
+
+unfoldable pub isClosed : RegisterRow → Bool
+isClosed r = eqb (r .mark) closedMark
+
+unfoldable pub isOpen : RegisterRow → Bool
+isOpen r = eqb (r .mark) openMark
+
+-- a freed row: every byte is zero
+unfoldable pub freeRegister : RegisterRow
+freeRegister = record { card = replicate 256 0; mark = closedMark }
+
+-- SM?KL: a row filled with a stored card; its key is open, whether it was held before or not
 unfoldable pub filledRegister : List ℕ → RegisterRow
-filledRegister card = record { card = inRow card }
+filledRegister card = record { card = inRow card; mark = openMark }
+
+-- GL?RS: the key is closed
+unfoldable pub closedRow : RegisterRow → RegisterRow
+closedRow r = record { card = r .card; mark = closedMark }
+
+-- SM?KF: the key is closed where it is one of the slot
+unfoldable pub closedUnder : List ℕ → RegisterRow → RegisterRow
+closedUnder s r = cond (isUnder s r) (closedRow r) r
 
 -- SM?KX: the row becomes free where it holds a key of the slot
 unfoldable pub withoutSlot : List ℕ → RegisterRow → RegisterRow

@@ -38,6 +38,10 @@ isZeroSlot r = all (
 abbrev pub hasState : SlotState → SlotRow → Bool
 hasState a r = eqb (r .state) (stateNumber a)
 
+-- a session is open or awaited: PENDING or LOADING
+unfoldable pub inSession : SlotRow → Bool
+inSession r = hasState Pending r || hasState Loading r
+
 -- the KMCID that a row keeps
 abbrev pub kmcidOf : SlotRow → List ℕ
 kmcidOf r = trimmed (r .kmcid)

@@ -10,7 +10,7 @@ ghost use Rattle.row_types.specs.Lists.{everyRow, firstFrom, mapped};
 ghost use Rattle.row_types.specs.Slots.{hasState, isNamed, isSlotSound, resetSlot};
 ghost use Rattle.row_types.specs.declared.SlotState.the-variants.{Free};
 ghost use Rattle.row_types.specs.Places.{placeOf, PlaceWithin};
-ghost use Rattle.row_types.specs.Index.{keptName};
+ghost use Rattle.row_types.specs.Index.{keptName, stateIn};
 
 // The place of the slot with a name.
 pub fn slot_place(slots: [SlotRow; 8], slot_count: usize, name: &[u8]) -> Place
@@ -75,6 +75,21 @@ pub fn names_of(slots: [SlotRow; 8]) -> [[u8; 40]; 8]
         i += 1;
     }
     names
+}
+
+// The numbers of the states, of all places.
+pub fn states_of(slots: [SlotRow; 8]) -> [u8; 8]
+    ensures { λ states. ⌜ states ≡ map stateIn slots ⌝ }
+{
+    let mut states = [0u8; 8];
+    let mut i = 0;
+    while i < 8 {
+        let r = slots[i];
+        let state = r.state;
+        states[i] = state;
+        i += 1;
+    }
+    states
 }
 
 // GL?RS: the rows after it.

@@ -1,4 +1,4 @@
--- `console_forms::is_register` meets its contract: a chain of two tests.
+-- `console_forms::is_register` meets its contract: a chain of three tests.
 use Rattle.record_identities.proofs.Chain.{chain}
 use Rattle.console_forms.specs.LineForms.{isRegister}
 use Rattle.console_forms.proofs.CutLaws.{cuts}
@@ -14,6 +14,10 @@ returns-2 : tie.Need-returns-2
 unfolding isRegister
 returns-2 c = search (chain, cuts)
 
+returns-3 : tie.Need-returns-3
+unfolding isRegister
+returns-3 c = search (chain, cuts)
+
 pub is-register-spec : {M : Type 1} → statement M
 is-register-spec =
     tie.close
@@ -22,5 +26,8 @@ is-register-spec =
     (λ c κs. search needs)
     returns
     (λ c κs. search needs)
+    returns-2
     (λ c κs. search needs)
-    returns-2)
+    (λ c κs. search needs)
+    (λ c κs. search needs)
+    returns-3)

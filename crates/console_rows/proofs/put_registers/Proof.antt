@@ -11,7 +11,7 @@ use Rattle.console_rows.proofs.put_registers.Statement.{statement}
 use Rattle.console_rows.proofs.put_registers.Tie as tie
 
 abbrev Inv-loop : tie.InvT-loop
-Inv-loop dst₀ at registers end₀ i₀ dst end i = (length registers ≡ 32) × (i ≤ 32) × (length dst ≡ length dst₀) × (end ≤ at + 533 * i) × Remains dst₀ at (inTurn registerLine 0 registers) dst end (inTurn registerLine i (drop i registers))
+Inv-loop dst₀ at registers end₀ i₀ dst end i = (length registers ≡ 32) × (i ≤ 32) × (length dst ≡ length dst₀) × (end ≤ at + 544 * i) × Remains dst₀ at (inTurn registerLine 0 registers) dst end (inTurn registerLine i (drop i registers))
 
 abbrev μ-loop : tie.MeasureT-loop
 μ-loop dst₀ at registers end₀ i₀ dst end i = 32 - i

@@ -12,7 +12,7 @@ use Rattle.console_show.proofs.put_registers.Statement.{statement}
 use Rattle.console_show.proofs.put_registers.Tie as tie
 
 abbrev Inv-loop : tie.InvT-loop
-Inv-loop dst₀ at t registers end₀ i₀ dst end i = (length registers ≡ 32) × (i ≤ 32) × (length dst ≡ length dst₀) × (end ≤ at + 290 * i) × Remains dst₀ at (inTurn (registerIn t) 0 registers) dst end (inTurn (registerIn t) i (drop i registers))
+Inv-loop dst₀ at t registers end₀ i₀ dst end i = (length registers ≡ 32) × (i ≤ 32) × (length dst ≡ length dst₀) × (end ≤ at + 303 * i) × Remains dst₀ at (inTurn (registerIn t) 0 registers) dst end (inTurn (registerIn t) i (drop i registers))
 
 abbrev μ-loop : tie.MeasureT-loop
 μ-loop dst₀ at t registers end₀ i₀ dst end i = 32 - i

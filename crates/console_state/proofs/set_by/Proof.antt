@@ -7,6 +7,9 @@ use Rattle.console_state.proofs.set_by.Tie as tie
 returns : tie.Need-returns
 returns c = search tables-set
 
+returns-6 : tie.Need-returns-6
+returns-6 c = search register-set
+
 pub set-by-spec : {M : Type 1} → statement M
 set-by-spec =
     tie.close
@@ -33,10 +36,11 @@ set-by-spec =
     (λ c κs. search needs)
     (λ c κs. search needs)
     (λ c κs. search needs)
+    (λ c κs. search needs)
     returns
     (λ c. search buffer-set)
     (λ c. search part-set)
     (λ c. search passed-set)
     (λ c. search slot-set)
-    (λ c. search register-set)
+    returns-6
     (λ c. search left))

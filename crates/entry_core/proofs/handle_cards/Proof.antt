@@ -19,7 +19,7 @@ handle-cards-spec =
     (λ c κs. search needs)
     (λ c κs. slots-can _ _ _ _ _ _ _ _ ((c .before .before .decide .ensures) _ (c .before .before .before .before .find .ensures .0)) _ (c .before .before .before .before .find .ensures .1) _ (c .payload .ensures))
     (λ c κs. (search needs, registers-can _ _ _ _ _ _ _ _ ((c .before .before .before .before .decide .ensures) _ (c .before .before .before .before .before .before .find .ensures .0)) _ (c .before .before .before .before .before .before .find .ensures .1) _ (c .before .before .payload .ensures)))
-    (λ c κs. (search needs, responds _ _ _ _ _ _ _ _ ((c .before .before .before .before .before .before .before .before .decide .ensures) _ (c .before .before .before .before .before .before .before .before .before .before .find .ensures .0)) _ (c .before .before .before .before .before .before .before .before .before .before .find .ensures .1) _ (c .before .before .before .before .before .before .payload .ensures) _ (c .before .before .before .change-registers .ensures)))
+    (λ c κs. (search needs, responds _ _ _ _ _ _ _ _ ((c .before .before .before .before .before .before .before .before .decide .ensures) _ (c .before .before .before .before .before .before .before .before .before .before .find .ensures .0)) _ (c .before .before .before .before .before .before .before .before .before .before .find .ensures .1) _ (c .before .before .before .before .before .before .payload .ensures) _ _ (c .before .before .before .change-registers .ensures)))
     (λ c. search needs)
     (λ c. search needs)
     returns)

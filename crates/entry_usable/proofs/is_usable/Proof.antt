@@ -1,6 +1,6 @@
 -- `entry_usable::is_usable` meets its contract, a law a return.
 use Rattle.decide_counts.proofs.CountLaws.{few-slots, few-registers}
-use Rattle.entry_usable.proofs.UsableLaws.{lent-few, lent-front, in-places, counts-no, sound-no, first-no, beyond-no, free-no, owner-some, owner-low, idle-decides}
+use Rattle.entry_usable.proofs.UsableLaws.{lent-few, lent-front, in-places, counts-no, sound-no, first-no, beyond-no, free-no, mark-decides}
 use borrow.Author.Needs.{needs}
 use Rattle.entry_usable.proofs.is_usable.Statement.{statement}
 use Rattle.entry_usable.proofs.is_usable.Tie as tie
@@ -21,5 +21,5 @@ is-usable-spec =
     (λ c. search (beyond-no, few-registers))
     (λ c κs. (search needs, in-places _ _ (c .before .if4 .left) (few-registers _ _ _ (c .before .before .before .before .before .before .before .before .are-counts .ensures) (c .before .before .before .before .before .before .before .if1 .left))))
     (λ c. search (free-no, few-registers))
-    (λ c κs. (search (owner-some, few-registers), search (owner-low, few-slots, few-registers)))
-    (λ c. search (idle-decides, few-slots, few-registers)))
+    (λ c κs. (search needs, in-places _ _ (c .before .before .before .if4 .left) (few-registers _ _ _ (c .before .before .before .before .before .before .before .before .before .before .are-counts .ensures) (c .before .before .before .before .before .before .before .before .before .if1 .left))))
+    (λ c. search (mark-decides, few-registers, needs)))

@@ -4,9 +4,8 @@ use mathlib.Core.List.{map}
 use Prim.Native.Nat.{_-_, _≤_}
 use lib.ListN.{length, drop}
 use lib.Seq.{sets}
-use Rattle.row_types.proofs.LoopLaws.{fill-start, fill-ended}
+use Rattle.row_types.proofs.LoopLaws.{fill-start, field-turn, fill-ended}
 use Rattle.row_index.specs.Lent.{cardIn}
-use Rattle.register_tables.proofs.CardRows.{card-turn}
 use borrow.Author.Needs.{needs}
 use Rattle.register_tables.proofs.cards_of.Statement.{statement}
 use Rattle.register_tables.proofs.cards_of.Tie as tie
@@ -30,5 +29,5 @@ cards-of-spec =
     (λ c. search needs)
     (λ c. search needs)
     (λ c. search needs)
-    (λ c. (search needs, search needs, search needs, search card-turn))
+    (λ c. (search needs, search needs, search needs, search (field-turn cardIn)))
     (λ c. search fill-ended))

@@ -2,24 +2,20 @@
 -- In a step the number of `value`, `look`, `init`, `store`, `forget` or `leave` is a place in the list of what there is (`Start`, `I`): a local takes two, the last local comes first, and what stands before the locals is listed where it changes.
 use Rattle.hand_proofs.proofs.Prelude.{_≡_, refl, sym, ap, subst, _∙_, ℕ, suc, _<_, _≤_, _+_, _*_, _^_, min, zero-le, min-le-left, min-le-right, eq-or-lt-of-le, min-comm, add-one, arith, ⊎-elim, Bool, [], _∷_, List, lit<, length, getD, URA, fullShare, Ty, named, mut, imm, w64, tyInt, tyBool, tyPtr, tyRef, tyUnit, Val, vunit, vint, vptr, vbool, SProp, ent, emp, via, fst∗, id⊢, GName, Lft, Share, ftrue, flft, fat, fobor, fobs, fauth, Memory, Routine, Heap, Env, Wp, WpFn, Tables, afterSeq, afterBlock, afterTurn, atReturn, Atoms, Fun, Given, Item, Sq, runs, anyQ, atRet, ‵, _⊛_, _$_, _∵_, !, qed, move, keep, drop, split, join, rewrite, fsplit, fjoin, feqI, suffices, frame, done, whole, sub, look-in, arr-parts, look, look-raw, store, init, forget, stop, hop, fld, from, load, lit, unit-lit, bin, of-opd, and-then, no-more, assigns, assigns-last, land, first, blocks, loops, again, Below, stays, leaves-loop, exec, returns, enter, alloc1, alloc0, params1, pass1, pass0, free0, fmOf, WpFn-mono, owns, Is, shows, shares, pointee, pureI, Held, uint-makes, uint-vals, uint-tells, RefT, place-is, row, elem-out, elem-back, elem-put, opens-slice, closes-slice, looks-slice, shuts-slice, sliceTy, sliceVal, slice-vals, MutSlice, ShrSlice, Room, at-slice, heres, codedHoleys, mut-slice-tells, shr-slice-tells, owned, nothing, Vals, onEntry, Meets, Triple, tripleOf, says, Stays, stay-slice, stay-dropped, walkOf, goes-slice, goes-dropped, Walks, ends-at, walked, walk-meets, yes, Param, shrSliceOf, plain, lt-ltb, le-ltb, givenOf, tables, tablesOf, entered, cited}
 use types.Kit as Kit
-use package.mir.Raw.{raw as rawTy}
 use package.mir.Syntax.{w8}
 use denote.RattleType.{RattleType}
 use denote.Plain.{uint-copy}
 use denote.Builtin.{u8}
 use denote.Array.{array-copy}
-use denote.Index.{place as place′}
 use denote.Struct.Laws as LL
 use mathlib.Core.List.{_++_}
-use lib.ListN.{length-map, List·getD-map}
 use Rattle.row_types.specs.declared.RegisterRow.{RegisterRow}
-use Rattle.row_index.specs.Lent.{rowWith, rowsWith}
-use Rattle.row_lending.specs.Tables.{overlay}
+use Rattle.row_lending.specs.Tables.{eachWith, withCard}
 use Rattle.row_lending.proofs.Over.{over, as-many, over-all}
 use Rattle.hand_proofs.proofs.Walk.{unset, holds, value, calls-plain, leave, leave-room, down, down-wf}
-use Rattle.row_lending.proofs.TableTypes.{cellTy, cellVal, cell-typed, IsCell, lent, rowTy, rowVal, IsRow}
+use Rattle.row_lending.proofs.TableTypes.{cellTy, cellVal, cell-typed, lent, rowVal}
 use Rattle.row_lending.proofs.LentTables.{register-row, card-cell, the-card}
-use Rattle.row_lending.proofs.Turns.{PlacedContract, offset-fits, below, next-fits, falls}
+use Rattle.row_lending.proofs.Turns.{PlacedContract, offset-fits, smaller-fits, below, next-fits, falls}
 use Rattle.row_lending.proofs.placed as placed
 use Rattle.row_lending.proofs.placed.Symbol as placed-def
 use Rattle.row_lending.proofs.placed.Met as placed-thm
@@ -83,7 +79,7 @@ module _ {M : Type 1} (𝓤 : URA M) (H : Heap 𝓤) (A : Atoms 𝓤) (W : Given
 
     -- the lent rows after i turns
     abbrev zs : ℕ → List RegisterRow
-    zs i = over (rowWith []) ys (rowsWith cs) i
+    zs i = over withCard none [] ys cs i
 
     -- the loop's states
     abbrev X : Type 0
@@ -117,7 +113,7 @@ module _ {M : Type 1} (𝓤 : URA M) (H : Heap 𝓤) (A : Atoms 𝓤) (W : Given
             assigns ! (bin ! (value ! 22 refl) (value ! 24 refl) tt) (from ! (stop !)) (init ! 16 refl (tt, tt)) $
             rewrite ! 16 (λ (z : Bool). ‵ (fat fullShare tyBool l₇ 0 (vbool z))) (lt-ltb i k yet) refl $ stays ! (value ! 16 refl) $
             -- where cards[i] lies
-            assigns ! (bin ! (value ! 22 refl) (lit ! tt) (record { fits = fits })) (from ! (stop !)) (init ! 14 refl (tt, record { fits = fits })) $
+            assigns ! (bin ! (value ! 22 refl) (lit ! tt) (record { fits = card-fits })) (from ! (stop !)) (init ! 14 refl (tt, record { fits = card-fits })) $
             assigns ! (bin ! (load ! (from ! (fld ! refl (stop !))) (look-in ! 26 (sub ! 0 refl (whole !)))) (value ! 14 refl) tt) (from ! (stop !)) (init ! 12 refl (tt, tt)) $
             rewrite ! 12 (λ (p : ℕ). ‵ (fat fullShare tyPtr l₉ 0 (vptr b₁ p))) (sym (place-is 256 o₁ i)) refl $ move ! (4 ∷ []) $
             elem-out ! C (Is C) (shows 𝓤 H A C) (λ card. cellVal card-cell card ∷ []) (card-cell .tells) q cs i [] b₁ o₁ inside (λ is.
@@ -127,12 +123,11 @@ module _ {M : Type 1} (𝓤 : URA M) (H : Heap 𝓤) (A : Atoms 𝓤) (W : Given
             -- [the rows; the cards; …; …; …; …; _12; …]: where registers[i] lies
             assigns ! (bin ! (value ! 22 refl) (lit ! tt) (record { fits = fits })) (from ! (stop !)) (init ! 8 refl (tt, record { fits = fits })) $
             assigns ! (bin ! (load ! (from ! (fld ! refl (stop !))) (look-in ! 28 (sub ! 0 refl (whole !)))) (value ! 8 refl) tt) (from ! (stop !)) (init ! 6 refl (tt, tt)) $
-            rewrite ! 6 (λ (p : ℕ). ‵ (fat fullShare tyPtr l₁₂ 0 (vptr b p))) (sym (place-is 256 o i)) refl $
-            elem-out ! R (Is R) (shows 𝓤 H A R) (LL.vals (register-row .type) (register-row .laws)) (LL.tells (register-row .type) (register-row .laws)) fullShare (zs i) i none b o within (λ _.
+            rewrite ! 6 (λ (p : ℕ). ‵ (fat fullShare tyPtr l₁₂ 0 (vptr b p))) (sym (place-is 257 o i)) refl $
+            elem-out ! R (Is R) (shows 𝓤 H A R) (LL.vals (register-row .type) (register-row .laws)) (LL.tells (register-row .type) (register-row .laws)) fullShare (zs i) i none b o within (λ e-is.
             -- [registers[i]; what it owns; the other rows; the cards; the open borrow; obs; auth; what shuts the cards; _12; …]: its card is overwritten, and it is put back
-            assigns ! (of-opd ! (value ! 12 refl)) (from ! (hop ! (look ! 8 refl) (the-card .finds !))) (the-card .stores ! 0 (getD (zs i) i none) c refl (cell-typed card-cell 𝓤 H A W c is)) $
-            rewrite ! 0 (λ (r : RegisterRow). ‵ (fat fullShare (rawTy (rowTy register-row)) b (place′ 256 o i) (rowVal register-row r))) (sym (List·getD-map rowWith cs i [])) refl $
-            move ! (1 ∷ []) $ drop ! $ owned ! R (Is R) (LL.makes (register-row .type) (register-row .plain) 𝓤 H A) e _ (e-is is) $ move ! (1 ∷ 0 ∷ []) $ elem-put ! R fullShare (zs i) i e (rowVal register-row e ∷ []) b o within $
+            assigns ! (of-opd ! (value ! 12 refl)) (from ! (hop ! (look ! 8 refl) (the-card .finds !))) (the-card .stores ! 0 e c refl (cell-typed card-cell 𝓤 H A W c is)) $
+            move ! (1 ∷ []) $ drop ! $ owned ! R (Is R) (LL.makes (register-row .type) (register-row .plain) 𝓤 H A) (withCard e c) _ (the-card .row-is e c e-is is) $ move ! (1 ∷ 0 ∷ []) $ elem-put ! R fullShare (zs i) i (withCard e c) (rowVal register-row (withCard e c) ∷ []) b o within $
             move ! (0 ∷ 2 ∷ 3 ∷ 4 ∷ 1 ∷ []) $
             -- the count goes up, and what the turn made is forgotten
             assigns-last ! (bin ! (value ! 22 refl) (lit ! tt) (record { fits = next-fits i n early (room .0) })) (from ! (stop !)) (store ! 22 refl (tt, record { fits = next-fits i n early (room .0) })) $
@@ -144,22 +139,22 @@ module _ {M : Type 1} (𝓤 : URA M) (H : Heap 𝓤) (A : Atoms 𝓤) (W : Given
             c = getD cs i []
 
             e : RegisterRow
-            e = getD (rowsWith cs) i (rowWith [])
-
-            e-is : IsCell card-cell c → IsRow register-row e
-            e-is is = subst (IsRow register-row) (sym (List·getD-map rowWith cs i [])) (the-card .row-is c is)
+            e = getD (zs i) i none
 
             early : i < n
             early = below i k n yet (min-le-left n (length cs))
 
             within : i < length (zs i)
-            within = subst (λ (m : ℕ). i < m) (sym (as-many (rowWith []) ys (rowsWith cs) i)) early
+            within = subst (λ (m : ℕ). i < m) (sym (as-many withCard none [] ys cs i)) early
 
             inside : i < length cs
             inside = below i k (length cs) yet (min-le-right n (length cs))
 
-            fits : i * 256 < 2 ^ 64
-            fits = offset-fits 256 i n early (room .1)
+            fits : i * 257 < 2 ^ 64
+            fits = offset-fits 257 i n early (room .1)
+
+            card-fits : i * 256 < 2 ^ 64
+            card-fits = smaller-fits 256 257 i (the-card .size-is) fits
 
         -- the turn that leaves the loop, and the rest of the body
         ends : (i : ℕ) (le : i ≤ k) → i ≡ k → Sq W (I (i, le)) (runs (𝓣 .C) (𝓣 .Λ) E mir.turn-1 (anyQ (afterTurn 𝓤 H (Below 𝓤 H A _≺_ I (i, le)) (Kit.post 𝓤 H Left))))
@@ -169,20 +164,20 @@ module _ {M : Type 1} (𝓤 : URA M) (H : Heap 𝓤) (A : Atoms 𝓤) (W : Given
             assigns ! (bin ! (value ! 22 refl) (value ! 24 refl) tt) (from ! (stop !)) (init ! 16 refl (tt, tt)) $
             rewrite ! 16 (λ (z : Bool). ‵ (fat fullShare tyBool l₇ 0 (vbool z))) (le-ltb i k (omega (arith, same))) refl $ leaves-loop ! (value ! 16 refl) $
             -- the rows are closed, the cards are shut, and the locals die
-            exec ! (𝓣 .C) (𝓣 .Λ) E mir.t-6 (atRet E Post) $ closes-slice ! tt R ys (zs i) (as-many (rowWith []) ys (rowsWith cs) i) b o $
+            exec ! (𝓣 .C) (𝓣 .Λ) E mir.t-6 (atRet E Post) $ closes-slice ! tt R ys (zs i) (as-many withCard none [] ys cs i) b o $
             -- [obs; the borrow; κ₀; the cards; what shuts them; _12; …]
             assigns ! (of-opd ! (unit-lit !)) (from ! (stop !)) (init ! 29 refl (tt, tt)) $ move ! (3 ∷ 4 ∷ []) $ shuts-slice ! tt C q cs b₁ o₁ $ returns ! (look ! 28 refl) $
             leave ! 28 refl refl $ leave ! 26 refl refl $ leave ! 24 refl refl $ leave ! 22 refl refl $ leave ! 20 refl refl $ leave ! 18 refl refl $ leave ! 16 refl refl $ leave ! 14 refl refl $
             leave-room ! 12 refl refl $ leave-room ! 10 refl refl $ leave-room ! 8 refl refl $ leave-room ! 6 refl refl $ leave-room ! 4 refl refl $ free0 ! $
             -- the rows are what the contract says
-            suffices ! _ (ends-at 𝓤 H A store-cards.ended stayed (store-cards.clauses 𝓤 H A mem run) W (((κ₀, (κ₁, tt)), (q₀, (q₁, tt)), tt, a, at), tt) vunit tt (zs i, (tt, tt)) (as-many (rowWith []) ys (rowsWith cs) i, (tt, tt))) $ says ! right $
+            suffices ! _ (ends-at 𝓤 H A store-cards.ended stayed (store-cards.clauses 𝓤 H A mem run) W (((κ₀, (κ₁, tt)), (q₀, (q₁, tt)), tt, a, at), tt) vunit tt (zs i, (tt, tt)) (as-many withCard none [] ys cs i, (tt, tt))) $ says ! right $
             -- [κ₁; obs; the borrow; κ₀]
             nothing ! $ move ! (1 ∷ 0 ∷ []) $ join ! $ move ! (3 ∷ 0 ∷ []) $ join ! $ frame ! $
-            fjoin ! $ pureI ! (at-slice R (x (zs i)) (s ∷ [])) (tt, (tt, tt)) (ap (λ (m : ℕ). sliceVal (b, o) m ∷ []) (sym (as-many (rowWith []) ys (rowsWith cs) i)), subst (Room R) (sym (as-many (rowWith []) ys (rowsWith cs) i)) room) $ fjoin ! $
+            fjoin ! $ pureI ! (at-slice R (x (zs i)) (s ∷ [])) (tt, (tt, tt)) (ap (λ (m : ℕ). sliceVal (b, o) m ∷ []) (sym (as-many withCard none [] ys cs i)), subst (Room R) (sym (as-many withCard none [] ys cs i)) room) $ fjoin ! $
             nothing ! $ nothing ! $ fjoin ! $ move ! (1 ∷ 0 ∷ []) $ fjoin ! $ frame ! $ feqI ! (List Val) (vunit ∷ []) (vunit ∷ []) refl $ done !
           where
-            right : zs i ≡ overlay (rowsWith cs) ys
-            right = ap zs same ∙ over-all (rowWith []) ys (rowsWith cs) k (min-comm n (length cs) ∙ ap (λ (m : ℕ). min m n) (sym (length-map cs rowWith)))
+            right : zs i ≡ eachWith withCard ys cs
+            right = ap zs same ∙ over-all withCard none [] ys cs k (min-comm n (length cs))
 
         each-turn : (x : X) → Sq W (I x) (runs (𝓣 .C) (𝓣 .Λ) E mir.turn-1 (anyQ (afterTurn 𝓤 H (Below 𝓤 H A _≺_ I x) (Kit.post 𝓤 H Left))))
         each-turn x = ⊎-elim (ends (x .0) (x .1)) (more (x .0) (x .1)) (eq-or-lt-of-le (x .1))

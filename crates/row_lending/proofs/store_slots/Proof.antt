@@ -1,8 +1,11 @@
 -- `row_lending::store_slots` meets its contract: `Stores.antt` at slot rows and tables of 8. Assumes nothing.
 use Rattle.hand_proofs.proofs.Prelude.{givenOf, tables, tablesOf, tripleOf, entered, cited}
+use Rattle.row_lending.specs.Tables.{overlay}
+use Rattle.row_lending.proofs.Over.{laid}
+use Rattle.row_lending.proofs.TableTypes.{itself}
 use Rattle.row_lending.proofs.Turns.{PlacedContract}
 use Rattle.row_lending.proofs.Stores.{stores}
-use Rattle.row_lending.proofs.LentTables.{slot-row}
+use Rattle.row_lending.proofs.LentTables.{slot-row, slot-cell}
 use Rattle.row_lending.proofs.placed.Symbol as placed
 use Rattle.row_lending.proofs.placed.Met as placed-thm
 use Rattle.row_lending.proofs.store_slots as store
@@ -15,6 +18,6 @@ unfolding code.routine tablesOf
 store-slots-spec 𝓤 H 𝓜 𝓖 𝓡 =
     entered 𝓤 H (tripleOf 𝓤 H (𝓖 .A) store.signature (store.spec 𝓤 H (𝓖 .A) (𝓜 .mem) (𝓡 .run)))
     (tables 𝓤 H 𝓜 𝓡 code.env .C) (tables 𝓤 H 𝓜 𝓡 code.env .Λ) name code.function (code.unfolded 𝓤 H 𝓜 𝓡)
-    (stores slot-row 8 tt 𝓤 H (𝓖 .A) (givenOf 𝓤 H 𝓜 𝓖) (𝓜 .mem) (𝓡 .run) (tablesOf 𝓤 H 𝓜 (tables 𝓤 H 𝓜 𝓡 code.env))
+    (stores slot-row slot-cell (itself slot-row) 8 tt (λ ys rs. overlay rs ys) laid 𝓤 H (𝓖 .A) (givenOf 𝓤 H 𝓜 𝓖) (𝓜 .mem) (𝓡 .run) (tablesOf 𝓤 H 𝓜 (tables 𝓤 H 𝓜 𝓡 code.env))
     -- the function that it calls meets its own
     (cited 𝓤 H (PlacedContract 𝓤 H (𝓖 .A) (𝓜 .mem) (𝓡 .run)) 𝓜 𝓡 code.env placed.name placed.routine code.calls-row-lending·placed (placed-thm.met 𝓤 H 𝓜 𝓖 𝓡)))
