@@ -9,6 +9,8 @@
  * - each pointer is valid for its length (of rows or bytes), is not null, and no two of them overlap;
  * - the rows are kept whole, all or nothing, over a power cut: the host stores them only after the call has returned;
  * - after power-up the host hands in GL?RS before anything else, since a session must not outlive the power;
+ * - in rows that a version before 0.4.0 stored a register has 256 bytes, and no mark: the host puts a zero mark behind
+ *   each card, then hands in GL?RS, which ends the sessions, so that every key is closed under an IDLE slot;
  * - the supplement of each request is its own: clock, load request, expected tag, check value, and whether the
  *   cryptographic check of that request passed.
  *
@@ -27,9 +29,9 @@ extern "C" {
 
 /* The version of this header and of the library that goes with it (CHANGELOG.md). */
 #define DIMINUREL_VERSION_MAJOR 0
-#define DIMINUREL_VERSION_MINOR 3
+#define DIMINUREL_VERSION_MINOR 4
 #define DIMINUREL_VERSION_PATCH 0
-#define DIMINUREL_VERSION "0.3.0"
+#define DIMINUREL_VERSION "0.4.0"
 
 /* Rows of each kind: 1 to these, else refusal 1. */
 #define DIMINUREL_SLOTS_MAX 8
@@ -58,6 +60,13 @@ enum diminurel_state {
     DIMINUREL_STATE_LOADING = 2,
     DIMINUREL_STATE_IDLE = 3,
     DIMINUREL_STATE_NONE = 255
+};
+
+/* The mark of a key: SM?KL leaves it open, and SM?KF of its slot or GL?RS closes it. SM?KC leaves the marks as they
+ * are, so that keys vend on while new ones are on request. */
+enum diminurel_mark {
+    DIMINUREL_MARK_CLOSED = 0,
+    DIMINUREL_MARK_OPEN = 1
 };
 
 /* How a request ended. docs/REFUSALS.md says who gets each refusal, with which response, and what to do about it. */
@@ -95,10 +104,12 @@ typedef struct {
     uint8_t tvp[DIMINUREL_TIMESTAMP_LENGTH]; /* zeros unless PENDING */
 } diminurel_slot;
 
-/* A register row. All zero is free. A stored card has fifteen entries, or sixteen with the supply group name SGN, which
- * is kept as it came: 0 to 24 bytes, and absent where it was absent. It takes at most 230 bytes. */
+/* A register row, 257 bytes. All zero is free. A stored card has fifteen entries, or sixteen with the supply group name
+ * SGN, which is kept as it came: 0 to 24 bytes, and absent where it was absent. It takes at most 230 bytes. An open mark
+ * is sound where the slot of the key, its KSL, is PENDING or LOADING. */
 typedef struct {
     uint8_t card[DIMINUREL_CARD_MAX]; /* a stored card, zeros after it */
+    uint8_t mark; /* of enum diminurel_mark; zero in a free row */
 } diminurel_register;
 
 /* What is handed in beside a request. Bytes past a length may hold anything. */
@@ -126,8 +137,8 @@ diminurel_reply diminurel_handle(diminurel_slot *slots, size_t slot_count, dimin
                                  size_t register_count, diminurel_supplement supplement, const uint8_t *request,
                                  size_t request_length, uint8_t *response, size_t response_length);
 
-/* Whether the key in a register, counted from 1, may vend: 1 exactly when its slot is IDLE, else 0; 0 for a register
- * that is 0, beyond the rows or free, for unsound rows and for counts out of range. */
+/* Whether the key in a register, counted from 1, may vend: 1 exactly when it is marked closed, whatever the state of its
+ * slot, else 0; 0 for a register that is 0, beyond the rows or free, for unsound rows and for counts out of range. */
 uint8_t diminurel_usable(const diminurel_slot *slots, size_t slot_count, const diminurel_register *registers,
                          size_t register_count, size_t reg);
 
@@ -157,8 +168,9 @@ DIMINUREL_FIELD(diminurel_slot, kmcid, 1, 40);
 DIMINUREL_FIELD(diminurel_slot, fingerprint, 41, 16);
 DIMINUREL_FIELD(diminurel_slot, tvp, 57, 16);
 
-DIMINUREL_HOLDS(sizeof(diminurel_register) == 256);
+DIMINUREL_HOLDS(sizeof(diminurel_register) == 257);
 DIMINUREL_FIELD(diminurel_register, card, 0, 256);
+DIMINUREL_FIELD(diminurel_register, mark, 256, 1);
 
 DIMINUREL_HOLDS(sizeof(diminurel_supplement) == 920);
 DIMINUREL_FIELD(diminurel_supplement, clock, 0, 16);

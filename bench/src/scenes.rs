@@ -3,7 +3,7 @@
 
 use reference::harness::requests;
 use reference::harness::tables::Tables;
-use reference::rows::{IDLE, LOADING, PENDING};
+use reference::rows::{IDLE, LOADING, OPEN, PENDING};
 use reference::{Command, Supplement};
 
 const CLOCK: &[u8; 16] = b"20130303T153839Z";
@@ -199,7 +199,8 @@ impl Content {
 }
 
 impl Filling {
-    /// Slots IDLE, but the last filled one in a state; each slot in turn has a block of registers.
+    /// Slots IDLE, but the last filled one in a state; each slot in turn has a block of registers. Keys are closed, but
+    /// those of a LOADING slot are open, as if its session had loaded each of them.
     fn tables(self, state: u8) -> Tables {
         let mut tables = Tables::empty(self.slots, self.registers);
         let name = |place: usize| self.content.name(place);
@@ -209,8 +210,11 @@ impl Filling {
         }
         tables.put_slot(last, state, &name(last), FINGERPRINT, if state == PENDING { CLOCK } else { b"" });
         for place in 0..self.filled_registers {
-            let slot = name(place / self.content.block % self.filled_slots);
-            tables.put_card(place, &self.content.stored(place, &slot));
+            let owner = place / self.content.block % self.filled_slots;
+            tables.put_card(place, &self.content.stored(place, &name(owner)));
+            if owner == last && state == LOADING {
+                tables.registers[place].mark = OPEN;
+            }
         }
         tables
     }
@@ -296,7 +300,7 @@ impl Filling {
 }
 
 /// Each command, a mixed history and `usable`, over each filling; then four commands over each further content, the
-/// list that has the most to put in sequence, and cards with SGN.
+/// list that has the most to put in sequence, cards with SGN, and keys of a slot whose session is open.
 pub fn all() -> Vec<Scene> {
     let mut scenes: Vec<Scene> = FILLINGS.into_iter().flat_map(Filling::scenes).collect();
     for content in FURTHER {
@@ -307,6 +311,9 @@ pub fn all() -> Vec<Scene> {
     for content in [GROUP_NAMES, SOME_GROUP_NAMES] {
         let full = Filling { content, ..FULL };
         scenes.extend([Command::RS, Command::KL, Command::GA].map(|command| full.accepted(command)));
+    }
+    for (title, state, vends) in [("usable, PENDING", PENDING, true), ("usable, open", LOADING, false)] {
+        scenes.push(FULL.scene(title, FULL.tables(state), vec![Call::Usable(FULL.filled_registers, vends)]));
     }
     scenes
 }
@@ -330,6 +337,8 @@ pub fn refused() -> Vec<Scene> {
     register.tables.registers[0].card[0] = b'a';
     let mut last = scene("3, last byte of the last card", reset.clone(), 3);
     last.tables.registers[31].card[255] = 1;
+    let mut mark = scene("3, mark of the last key", reset.clone(), 3);
+    mark.tables.registers[31].mark = 2;
     let mut bad = scene("4, supplement's last byte", reset.clone(), 4);
     bad.supplement.passed = 2;
     let mut wrong = FULL.content.load(&FULL.last(), 31);
@@ -340,6 +349,7 @@ pub fn refused() -> Vec<Scene> {
         unsound,
         register,
         last,
+        mark,
         bad,
         scene("5, nine bytes", reset[..9].to_vec(), 5),
         scene("6, of 10 bytes", b"GL?RS0000\r".to_vec(), 6),

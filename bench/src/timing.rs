@@ -1,7 +1,7 @@
 //! The two engines behind one trait, and the time of their calls.
 //!
 //! A call may change rows, and the next one needs them as they were. So the rows that a scene changes, and only they, are put back after it, inside of the timed loop. That
-//! is a slot and four registers at most; what it takes is measured by itself in the same round and taken off. A copy of all 8,776 bytes would be a tenth of what the fast
+//! is a slot and four registers at most; what it takes is measured by itself in the same round and taken off. A copy of all 8,808 bytes would be a tenth of what the fast
 //! engine takes, and tables prepared for each call would not stay in the caches.
 
 use crate::scenes::{Call, Scene};
@@ -46,7 +46,7 @@ impl Engine for Proved {
     }
 
     fn register(row: &RegisterRow) -> Register {
-        Register { card: row.card }
+        Register { card: row.card, mark: row.mark }
     }
 
     fn supplement(x: &Supplement) -> diminurel::Supplement {

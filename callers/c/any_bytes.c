@@ -6,7 +6,7 @@
 #include "diminurel.h"
 
 _Static_assert(sizeof(diminurel_slot) == 73, "a slot row has 73 bytes");
-_Static_assert(sizeof(diminurel_register) == 256, "a register row has 256 bytes");
+_Static_assert(sizeof(diminurel_register) == 257, "a register row has 257 bytes");
 _Static_assert(sizeof(diminurel_supplement) == 920, "a supplement has 920 bytes");
 _Static_assert(sizeof(diminurel_reply) == 16, "a reply has 16 bytes");
 

@@ -1,5 +1,6 @@
-/* A host in C, from power-up to a key that may vend. It keeps the rows in the file `rows` of the folder that it is run
- * in. Clock, tag and check value, which a host has from its clock and its cryptography, are constants here. */
+/* A host in C, from power-up to a key that may vend, and on while a new one is on request. It keeps the rows in the file
+ * `rows` of the folder that it is run in, and takes them from a file of an older version too. Clock, tag and check value,
+ * which a host has from its clock and its cryptography, are constants here. */
 #define _POSIX_C_SOURCE 200809L
 #include <errno.h>
 #include <fcntl.h>
@@ -14,28 +15,60 @@ static struct {
     diminurel_register registers[DIMINUREL_REGISTERS_MAX];
 } rows;
 
-/* Where no rows were kept yet, all are free. */
+/* The rows of versions before 0.4.0: cards without marks. */
+static struct {
+    diminurel_slot slots[DIMINUREL_SLOTS_MAX];
+    uint8_t cards[DIMINUREL_REGISTERS_MAX][DIMINUREL_CARD_MAX];
+} older;
+
+/* A zero mark stands behind each card; GL?RS, which comes next, ends what sessions there were. */
+static void take_older(void) {
+    memcpy(rows.slots, older.slots, sizeof rows.slots);
+    for (int i = 0; i < DIMINUREL_REGISTERS_MAX; i++) {
+        memcpy(rows.registers[i].card, older.cards[i], DIMINUREL_CARD_MAX);
+        rows.registers[i].mark = DIMINUREL_MARK_CLOSED;
+    }
+}
+
+/* Where no rows were kept yet, all are free. The length of the file tells its version. */
 static int read_rows(void) {
+    static uint8_t bytes[sizeof rows + 1];
     memset(&rows, 0, sizeof rows);
     FILE *file = fopen("rows", "rb");
     if (!file)
         return errno == ENOENT;
-    int whole = fread(&rows, sizeof rows, 1, file) == 1;
+    size_t length = fread(bytes, 1, sizeof bytes, file);
     fclose(file);
-    return whole;
+    if (length == sizeof rows) {
+        memcpy(&rows, bytes, sizeof rows);
+    } else if (length == sizeof older) {
+        memcpy(&older, bytes, sizeof older);
+        take_older();
+    } else {
+        return 0;
+    }
+    return 1;
 }
 
-static int written(const char *name) {
+static int written(const char *name, const void *bytes, size_t length) {
     FILE *file = fopen(name, "wb");
     if (!file)
         return 0;
-    int whole = fwrite(&rows, sizeof rows, 1, file) == 1 && fflush(file) == 0 && fsync(fileno(file)) == 0;
+    int whole = fwrite(bytes, length, 1, file) == 1 && fflush(file) == 0 && fsync(fileno(file)) == 0;
     return fclose(file) == 0 && whole;
+}
+
+/* What an older version would have left: the same cards, without their marks. */
+static int leave_older(void) {
+    memcpy(older.slots, rows.slots, sizeof older.slots);
+    for (int i = 0; i < DIMINUREL_REGISTERS_MAX; i++)
+        memcpy(older.cards[i], rows.registers[i].card, DIMINUREL_CARD_MAX);
+    return written("rows", &older, sizeof older);
 }
 
 /* All or nothing: until the new file is whole, and renamed, a power cut leaves the old one. */
 static int keep_rows(void) {
-    if (!written("rows.new") || rename("rows.new", "rows") != 0)
+    if (!written("rows.new", &rows, sizeof rows) || rename("rows.new", "rows") != 0)
         return 0;
     int folder = open(".", O_RDONLY);
     int kept = folder >= 0 && fsync(folder) == 0;
@@ -72,11 +105,15 @@ static int hand_in(const char *request) {
 /* GL?RS comes first, since a session must not outlive the power. */
 static int power_up(void) { return read_rows() && hand_in("GL?RSCEEF\r"); }
 
-/* A centre introduces itself, answers the load request, sends a key, and is done. */
-static int load_key(void) {
+/* A centre introduces itself, and is sent the load request. */
+static int request_key(void) {
     return hand_in("SM?KCPPK.ECDH.1|KMCID.1:SW1:NORTH:20200101T000000Z:1111111111111111:4ADD|04|20300101T000000Z|||"
-                   "9933~2B75\r") &&
-           hand_in("SM?KRPVKLOAD.RESP.1|KMCID.1:SW1:NORTH:20200101T000000Z:1111111111111111:4ADD|"
+                   "9933~2B75\r");
+}
+
+/* It answers the load request, sends a key, and is done. */
+static int load_key(void) {
+    return hand_in("SM?KRPVKLOAD.RESP.1|KMCID.1:SW1:NORTH:20200101T000000Z:1111111111111111:4ADD|"
                    "SMID.1:Prism:12345678:20130303T153830Z:E7C42215AF1FE951:9C7D|20260105T090000Z|"
                    "A1A1A1A1A1A1A1A1A1A1A1A1A1A1A1A1A1A1A1A1A1A1A1A1|F5D4~2396\r") &&
            hand_in("SM?KLPNORTH~PKEY.1|01|"
@@ -90,5 +127,11 @@ static int may_vend(void) {
     return yes;
 }
 
-/* The second power-up has nothing but the file. */
-int main(void) { return power_up() && load_key() && may_vend() && power_up() && may_vend() ? 0 : 1; }
+/* The first key; a second power-up, which has nothing but the file; the key vends while a new one is on request; the
+ * file of an older version. */
+int main(void) {
+    return power_up() && request_key() && load_key() && may_vend() &&
+           power_up() && may_vend() &&
+           request_key() && may_vend() && load_key() && may_vend() &&
+           leave_older() && power_up() && may_vend() ? 0 : 1;
+}

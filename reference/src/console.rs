@@ -10,7 +10,7 @@
 //! | `send X` | hands in header and payload X, also none, with checksum and carriage return added: at most 2,048 bytes in all |
 //! | `raw H`, `raw` | hands in the bytes H, or none |
 //! | `slot K S NAME FINGERPRINT TVP` | slot row K (1 to 8, of those that there are) becomes this: the state's number, then 80, 32 and 32 hexadecimal digits |
-//! | `register K CARD` | register row K (1 to 32, of those that there are) becomes this: 512 hexadecimal digits |
+//! | `register K M CARD` | register row K (1 to 32, of those that there are) becomes this: the mark's number, then the card in 512 hexadecimal digits |
 //! | `rows` | prints the rows that are not all zero, in the form of the two lines above |
 //! | `usable K` | prints whether the key of register K (0 to 2147483647) may vend |
 //! | `show` | nothing here: it is text for people, and not compared |
@@ -124,9 +124,10 @@ impl Console {
     }
 
     fn put_register(&mut self, rest: &[u8]) -> Option<()> {
-        let [row, card] = words(rest)?;
+        let [row, mark, card] = words(rest)?;
         let row = number(row, 1, self.tables.register_count.min(rows::MOST_REGISTERS))?;
-        self.tables.registers[row - 1] = RegisterRow { card: octets(card)?.try_into().ok()? };
+        self.tables.registers[row - 1] =
+            RegisterRow { mark: number(mark, 0, 255)? as u8, card: octets(card)?.try_into().ok()? };
         Some(())
     }
 
@@ -205,7 +206,7 @@ pub fn run(mut input: impl BufRead, mut output: impl Write) -> io::Result<()> {
 /// The rows that are not all zero, as the lines that make them.
 pub fn row_lines(tables: &Tables) -> String {
     let slots = tables.slots().iter().enumerate().filter(|(_, row)| !row.is_free());
-    let registers = tables.registers().iter().enumerate().filter(|(_, row)| !row.is_free());
+    let registers = tables.registers().iter().enumerate().filter(|(_, row)| !row.is_zero());
     slots
         .map(|(place, row)| slot_line(place + 1, row) + "\n")
         .chain(registers.map(|(place, row)| register_line(place + 1, row) + "\n"))
@@ -218,7 +219,7 @@ pub fn slot_line(number: usize, row: &SlotRow) -> String {
 }
 
 pub fn register_line(number: usize, row: &RegisterRow) -> String {
-    format!("register {number} {}", hex(&row.card))
+    format!("register {number} {} {}", row.mark, hex(&row.card))
 }
 
 /// Exactly `N` words, split by one space.

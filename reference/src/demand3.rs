@@ -160,15 +160,15 @@ fn answered(row: &RegisterRow, card: &[u8]) -> bool {
 }
 
 /// The value of a name in a card text.
-fn entry<'a>(card: &'a [u8], name: &[u8; 3]) -> Option<&'a [u8]> {
+pub(crate) fn entry<'a>(card: &'a [u8], name: &[u8; 3]) -> Option<&'a [u8]> {
     card.split(|&byte| byte == b';').find_map(|entry| entry.strip_prefix(name))
 }
 
-fn show(text: &[u8]) -> String {
+pub(crate) fn show(text: &[u8]) -> String {
     String::from_utf8_lossy(text).into_owned()
 }
 
 /// Tables are empty when every row is zero, whatever the row counts.
 pub fn are_empty(slots: &[SlotRow], registers: &[RegisterRow]) -> bool {
-    slots.iter().all(SlotRow::is_free) && registers.iter().all(RegisterRow::is_free)
+    slots.iter().all(SlotRow::is_free) && registers.iter().all(RegisterRow::is_zero)
 }

@@ -3,7 +3,7 @@
 use crate::cards::{self, Card};
 use crate::fields::{Reader, Writer};
 use crate::records::{self, Identity};
-use crate::rows::{self, RegisterRow, SlotRow, IDLE, LOADING, PENDING};
+use crate::rows::{self, RegisterRow, SlotRow, CLOSED, IDLE, LOADING, OPEN, PENDING};
 use crate::supplement::Supplement;
 use crate::{crc, text};
 
@@ -101,14 +101,14 @@ pub fn handle(
     }
 }
 
-/// A register's key may vend exactly when its slot is IDLE. `n` counts from 1.
+/// A register's key may vend exactly when it is marked closed, whatever its slot's state (document 02, N3). `n` counts
+/// from 1.
 pub fn usable(slots: &[SlotRow], registers: &[RegisterRow], n: usize) -> bool {
     if !rows::counts_in_range(slots.len(), registers.len()) || !rows::are_sound(slots, registers) {
         return false;
     }
     let Some(register) = n.checked_sub(1).and_then(|place| registers.get(place)) else { return false };
-    let Some(card) = cards::stored(&register.card) else { return false };
-    rows::slot_named(slots, card.slot()).is_some_and(|slot| slots[slot].state == IDLE)
+    !register.is_free() && register.mark == CLOSED
 }
 
 /// What an accepted request does, with the row places (from 0) that were found.
@@ -361,15 +361,16 @@ fn carry_out(
 ) -> (Option<u8>, Vec<u8>) {
     let mut reply = Writer::default();
     let state = match decision {
-        // PENDING and LOADING become IDLE.
+        // PENDING and LOADING become IDLE; every key is closed.
         Decision::Reset => {
             for slot in slots.iter_mut().filter(|slot| matches!(slot.state, PENDING | LOADING)) {
                 slot.state = IDLE;
                 slot.tvp = [0; 16];
             }
+            registers.iter_mut().for_each(|register| register.mark = CLOSED);
             None
         }
-        // PENDING with the record's fingerprint and the clock as TVP; the keys stay.
+        // PENDING with the record's fingerprint and the clock as TVP; the keys stay, and so do their marks.
         Decision::Begin { name, fingerprint, slot } => {
             let row = &mut slots[*slot];
             *row = SlotRow::FREE;
@@ -387,16 +388,20 @@ fn carry_out(
             reply.string(slots[*slot].name());
             Some(LOADING)
         }
-        // Slots are unchanged.
+        // Slots are unchanged; that one key is open, new or loaded again.
         Decision::Load { slot, card, register } => {
-            registers[*register].card = cards::store(card, slots[*slot].name(), &supplement.check);
+            let card = cards::store(card, slots[*slot].name(), &supplement.check);
+            registers[*register] = RegisterRow { card, mark: OPEN };
             reply.number(register + 1).string(cards::written(&registers[*register].card));
             Some(LOADING)
         }
-        // PENDING or LOADING becomes IDLE.
+        // PENDING or LOADING becomes IDLE; just the keys whose KSL is it are closed.
         Decision::Finish { slot } => {
             slots[*slot].state = IDLE;
             slots[*slot].tvp = [0; 16];
+            for register in registers.iter_mut().filter(|register| of_slot(register, slots[*slot].name())) {
+                register.mark = CLOSED;
+            }
             Some(IDLE)
         }
         // The row becomes free, as do just the registers whose KSL is it.

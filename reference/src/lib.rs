@@ -11,6 +11,7 @@ pub mod demand3;
 pub mod engine;
 pub mod fields;
 pub mod harness;
+pub mod marks;
 pub mod records;
 pub mod rows;
 pub mod supplement;

@@ -1,5 +1,5 @@
 //! The slot rows and the register rows that the caller lends
-//! (document 01, "Slots and registers" and question 3).
+//! (document 01, "Slots and registers" and question 3; document 02, N3, for the marks).
 
 use crate::{cards, text};
 
@@ -7,6 +7,10 @@ pub const FREE: u8 = 0;
 pub const PENDING: u8 = 1;
 pub const LOADING: u8 = 2;
 pub const IDLE: u8 = 3;
+
+/// The marks of a key: open from its load until SM?KF of its slot, or a reset.
+pub const CLOSED: u8 = 0;
+pub const OPEN: u8 = 1;
 
 pub const MOST_SLOTS: usize = 8;
 pub const MOST_REGISTERS: usize = 32;
@@ -24,6 +28,7 @@ pub struct SlotRow {
 #[derive(Clone, Copy, PartialEq, Eq, Debug)]
 pub struct RegisterRow {
     pub card: [u8; 256],
+    pub mark: u8,
 }
 
 impl SlotRow {
@@ -54,9 +59,14 @@ impl SlotRow {
 }
 
 impl RegisterRow {
-    pub const FREE: RegisterRow = RegisterRow { card: [0; 256] };
+    pub const FREE: RegisterRow = RegisterRow { card: [0; 256], mark: CLOSED };
 
+    /// By its card alone; where it is sound, its mark is zero too.
     pub fn is_free(&self) -> bool {
+        self.card == Self::FREE.card
+    }
+
+    pub fn is_zero(&self) -> bool {
         *self == Self::FREE
     }
 }
@@ -78,15 +88,25 @@ pub fn are_sound(slots: &[SlotRow], registers: &[RegisterRow]) -> bool {
         }
     }
     let mut pairs = Vec::with_capacity(MOST_REGISTERS);
-    for register in registers.iter().filter(|register| !register.is_free()) {
-        // A card as stored, which includes CLU 0 and the range of VND.
+    for register in registers.iter().filter(|register| !register.is_zero()) {
+        // A card as stored, which includes CLU 0 and the range of VND. A card of zeros is none: a free row is all zero.
         let Some(card) = cards::stored(&register.card) else { return false };
-        if slot_named(slots, card.slot()).is_none() || pairs.contains(&card.pair()) {
+        let Some(slot) = slot_named(slots, card.slot()) else { return false };
+        if !mark_is_sound(register.mark, slots[slot].state) || pairs.contains(&card.pair()) {
             return false;
         }
         pairs.push(card.pair());
     }
     true
+}
+
+/// Every open key's slot is PENDING or LOADING (document 02, N3); no other number is a mark.
+fn mark_is_sound(mark: u8, state: u8) -> bool {
+    match mark {
+        CLOSED => true,
+        OPEN => matches!(state, PENDING | LOADING),
+        _ => false,
+    }
 }
 
 /// The slot of that name, compared byte by byte. An empty name, or one over

@@ -36,26 +36,29 @@ fn slot(number: usize, state: u8, name: &str, fingerprint: &str, tvp: &str) -> S
     console::slot_line(number, &tables.slots[0])
 }
 
-fn register(number: usize, card: &str) -> String {
+fn register(number: usize, mark: u8, card: &str) -> String {
     let mut tables = Tables::empty(8, 32);
     tables.put_card(0, card.as_bytes());
+    tables.registers[0].mark = mark;
     console::register_line(number, &tables.registers[0])
 }
 
 /// The supplement at the start is in every answer of a session.
 #[test]
 fn a_session_from_the_start() {
-    let script = format!("send {BEGIN}\nrows\nsend {}\nsend {LOAD}\nusable 1\nsend SM?KFPA~\nusable 1\nrows\nsend SM?KXPA~\nusable 1\nrows\n", respond());
+    let script = format!("send {BEGIN}\nrows\nsend {}\nsend {LOAD}\nusable 1\nrows\nsend SM?KFPA~\nusable 1\nrows\nsend SM?KXPA~\nusable 1\nrows\n", respond());
     let pending = slot(1, 1, "A", "AAAAAAAAAAAAAAAA", "20260101T000000Z");
+    let loading = slot(1, 2, "A", "AAAAAAAAAAAAAAAA", "");
     let idle = slot(1, 3, "A", "AAAAAAAAAAAAAAAA", "");
     let loaded = String::from_utf8(requests::frame(b"SM!KL", format!("00N1~P{CARD}~").as_bytes())).unwrap();
     assert_eq!(
         print(script.as_bytes()),
         format!(
             "1 0 PENDING SM!KC00PA~PVKLOAD.REQ.1~757E\n{pending}\n3 0 LOADING SM!KR00PA~1A50\n4 0 LOADING {}\n5 no\n\
-             6 0 IDLE SM!KF00FA32\n7 yes\n{idle}\n{}\n9 0 FREE SM!KX00FC52\n10 no\n",
+             {loading}\n{}\n7 0 IDLE SM!KF00FA32\n8 yes\n{idle}\n{}\n10 0 FREE SM!KX00FC52\n11 no\n",
             loaded.trim_end(),
-            register(1, CARD)
+            register(1, 1, CARD),
+            register(1, 0, CARD)
         )
     );
 }
@@ -93,9 +96,12 @@ fn forms() {
     assert_eq!(print(b"usable 0\nusable 1\nusable 2147483647\n"), "1 no\n2 no\n3 no\n");
     let line = format!("slot 8 255 {} {} {}", "FF".repeat(40), zeros(32), "0A".repeat(16));
     assert_eq!(print(format!("{line}\nrows\n").as_bytes()), format!("{line}\n"));
-    let line = format!("register 32 {}0F", zeros(510));
+    let line = format!("register 32 255 {}0F", zeros(510));
     assert_eq!(print(format!("{line}\nrows\n").as_bytes()), format!("{line}\n"));
-    // A row of zeros is free, and not printed; a state alone is content.
+    // A row of zeros is free, and not printed; a state alone is content, and so is a mark.
+    assert_eq!(print(format!("register 1 0 {}\nrows\n", zeros(512)).as_bytes()), "");
+    let line = format!("register 1 1 {}", zeros(512));
+    assert_eq!(print(format!("{line}\nrows\n").as_bytes()), format!("{line}\n"));
     assert_eq!(print(format!("slot 1 0 {} {} {}\nrows\n", zeros(80), zeros(32), zeros(32)).as_bytes()), "");
     let line = format!("slot 1 1 {} {} {}", zeros(80), zeros(32), zeros(32));
     assert_eq!(print(format!("{line}\nrows\n").as_bytes()), format!("{line}\n"));
@@ -180,6 +186,8 @@ fn in_no_form() {
         "register",
         "register 1",
         "register 1 ",
+        "register 1 0",
+        "register 1 0 ",
         "usable",
         "usable ",
         "usable 01",
@@ -223,20 +231,36 @@ fn in_no_form() {
         lines.push(format!("slot {row} {state} {name} {fingerprint} {tvp}"));
     }
     lines.push(format!("slot 1 3 {name} {sixteen}"));
-    for (row, card) in [
-        ("0", &card[..]),
-        ("33", &card),
-        ("01", &card),
-        ("", &card),
-        ("1", &card[2..]),
-        ("1", &card[1..]),
-        ("1", &("AB".repeat(257))),
-        ("1", &card.to_lowercase()),
-        ("1", &(card.clone() + " ")),
-        ("1 1", &card),
+    for (row, mark, card) in [
+        ("0", "0", &card[..]),
+        ("33", "0", &card),
+        ("01", "0", &card),
+        ("", "0", &card),
+        ("1", "", &card),
+        ("1", "00", &card),
+        ("1", "01", &card),
+        ("1", "256", &card),
+        ("1", "257", &card),
+        ("1", "-1", &card),
+        ("1", "open", &card),
+        ("1", "1 ", &card),
+        ("1", " 1", &card),
+        ("1", "1 1", &card),
+        ("1", "4294967297", &card),
+        ("1", "18446744073709551617", &card),
+        ("1", "1", ""),
+        ("1", "0", &card[2..]),
+        ("1", "0", &card[1..]),
+        ("1", "0", &("AB".repeat(257))),
+        ("1", "0", &card.to_lowercase()),
+        ("1", "0", &(card.clone() + " ")),
+        ("1", "0", &(card.clone() + " 0")),
+        ("1 1", "0", &card),
     ] {
-        lines.push(format!("register {row} {card}"));
+        lines.push(format!("register {row} {mark} {card}"));
     }
+    // A card without its mark, and the mark after it.
+    lines.extend([format!("register 1 {card}"), format!("register 1 {card} 0")]);
     for line in &lines {
         let mut console = filled();
         let before = (console.tables.clone(), console.supplement, console.buffer);
@@ -264,12 +288,12 @@ fn filled() -> Console {
 
 #[test]
 fn row_numbers_that_the_tables_lack() {
-    let (a, card) = (slot(3, 3, "A", "AAAAAAAAAAAAAAAA", ""), register(4, CARD));
+    let (a, card) = (slot(3, 3, "A", "AAAAAAAAAAAAAAAA", ""), register(4, 0, CARD));
     assert_eq!(print(format!("tables 2 3\n{a}\n{card}\nrows").as_bytes()), "2 ?\n3 ?\n");
     assert_eq!(print(format!("tables 3 4\n{a}\n{card}\nrows").as_bytes()), format!("{a}\n{card}\n"));
     assert_eq!(print(format!("tables 0 0\n{}\n{}", a.replace("slot 3", "slot 1"), card).as_bytes()), "2 ?\n3 ?\n");
     // Tables of 9 and 33 rows: the last ones cannot be named.
-    let (ninth, last) = (slot(9, 3, "A", "AAAAAAAAAAAAAAAA", ""), register(33, CARD));
+    let (ninth, last) = (slot(9, 3, "A", "AAAAAAAAAAAAAAAA", ""), register(33, 0, CARD));
     assert_eq!(print(format!("tables 9 33\n{ninth}\n{last}\n{a}\nrows").as_bytes()), format!("2 ?\n3 ?\n{a}\n"));
 }
 
@@ -409,7 +433,7 @@ fn may_be_printed(line: &str) -> bool {
         ["slot", row, state, name, fingerprint, tvp] => {
             number(row, 1, 8) && number(state, 0, 255) && hex(name, 80) && hex(fingerprint, 32) && hex(tvp, 32)
         }
-        ["register", row, card] => number(row, 1, 32) && hex(card, 512),
+        ["register", row, mark, card] => number(row, 1, 32) && number(mark, 0, 255) && hex(card, 512),
         // A response may have spaces in it.
         [line, outcome, "FREE" | "PENDING" | "LOADING" | "IDLE" | "-", response, ..] => {
             let silent = number(outcome, 1, 4);
@@ -508,5 +532,27 @@ fn lists() {
         let places = [1, 3, 4, 6, 8].into_iter().zip(rows);
         let script: String = places.map(|(place, name)| slot(place, 3, name, "AAAAAAAAAAAAAAAA", "") + "\n").collect();
         assert_eq!(last(&(script + "send SM?GL")), "0 - SM!GL00PA~PAB~PB~PZ~Pa~62A4");
+    }
+}
+
+/// Every number as a mark (document 02, N3): the line puts it and `rows` prints it. Open is sound under PENDING and
+/// LOADING, and no mark but 0 beside a card of zeros.
+#[test]
+fn marks() {
+    let owners = [(1, "20260101T000000Z"), (2, ""), (3, "")]
+        .map(|(state, tvp)| (state, slot(1, state, "A", "AAAAAAAAAAAAAAAA", tvp)));
+    for mark in 0..=255 {
+        for (state, owner) in &owners {
+            let rows = format!("{owner}\n{}\n", register(2, mark, CARD));
+            assert_eq!(print(format!("{rows}rows").as_bytes()), rows);
+            let sound = mark == 0 || mark == 1 && *state != 3;
+            let due = if sound { "0 - SM!GL00PA~A49F" } else { "3 - -" };
+            assert_eq!(last(&format!("{rows}send SM?GL")), due, "{mark} under {state}");
+            assert_eq!(last(&format!("{rows}usable 2")), if mark == 0 { "yes" } else { "no" }, "{mark} under {state}");
+        }
+        let line = register(2, mark, "");
+        let due = if mark == 0 { "0 - SM!GL00A811" } else { "3 - -" };
+        assert_eq!(last(&format!("{line}\nsend SM?GL")), due, "{mark} beside zeros");
+        assert_eq!(last(&format!("{line}\nusable 2")), "no", "{mark} beside zeros");
     }
 }

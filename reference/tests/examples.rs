@@ -104,7 +104,7 @@ fn clause_6_3_5_4_load() {
         assert_eq!((answer.outcome, answer.state, reply.as_str()), (0, Some(LOADING), printed));
         assert!(tables.registers[1].is_free());
     }
-    // 6.3.8: the same card. Usable when the slot is IDLE.
+    // 6.3.8: the same card. It may vend once the session is closed.
     assert_eq!(ask(&mut tables, &plain(), &frame(b"SM?GA", b"N1~")).1, printed.replace("SM!KL00N1~", "SM!GA00"));
     assert!(!usable(&tables.slots[..1], &tables.registers[..2], 1));
     // 6.3.6.4, 6.3.9.4 and 6.3.7.4.

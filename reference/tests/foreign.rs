@@ -100,5 +100,6 @@ fn a_foreign_engine_is_compared() {
 
 #[test]
 fn rows_have_the_layout_of_the_paper() {
-    assert_eq!((std::mem::size_of::<SlotRow>(), std::mem::size_of::<RegisterRow>()), (73, 256));
+    assert_eq!((std::mem::size_of::<SlotRow>(), std::mem::size_of::<RegisterRow>()), (73, 257));
+    assert_eq!(std::mem::offset_of!(RegisterRow, mark), 256);
 }

@@ -1,13 +1,16 @@
-//! The scripts in `scripts/` print what stands beside them in `.out`, which was checked against document 01.
+//! The scripts in `scripts/` print what stands beside them in `.out`, which was checked against documents 01 and 02.
 
 use reference::console;
 use reference::Command;
 
-const SCRIPTS: [(&str, &[u8], &str); 4] = [
+const SCRIPTS: [(&str, &[u8], &str); 7] = [
     ("story", include_bytes!("../../scripts/story.txt"), include_str!("../../scripts/story.out")),
     ("refusals", include_bytes!("../../scripts/refusals.txt"), include_str!("../../scripts/refusals.out")),
     ("forms", include_bytes!("../../scripts/forms.txt"), include_str!("../../scripts/forms.out")),
     ("examples", include_bytes!("../../scripts/examples.txt"), include_str!("../../scripts/examples.out")),
+    ("requests", include_bytes!("../../scripts/requests.txt"), include_str!("../../scripts/requests.out")),
+    ("refresh", include_bytes!("../../scripts/refresh.txt"), include_str!("../../scripts/refresh.out")),
+    ("marks", include_bytes!("../../scripts/marks.txt"), include_str!("../../scripts/marks.out")),
 ];
 
 #[test]
@@ -46,6 +49,37 @@ fn the_story_has_each_command_accepted() {
         let header = String::from_utf8_lossy(command.header()).replace('?', "!");
         assert!(answers.iter().any(|(outcome, response)| *outcome == 0 && response.starts_with(&header)), "{header}");
     }
+}
+
+/// What `usable 1`, `usable 2` and `usable 3` print after each request of a script that is accepted, where all three are
+/// asked.
+fn vending(script: &[u8], output: &str) -> Vec<(String, String)> {
+    let lines: Vec<&str> = std::str::from_utf8(script).unwrap().lines().collect();
+    let printed = |line: usize| output.lines().find_map(|each| each.strip_prefix(&format!("{line} "))).unwrap();
+    let places = (0..lines.len()).filter(|place| lines[*place..].starts_with(&["usable 1", "usable 2", "usable 3"]));
+    places
+        .map(|place| {
+            let last = lines[..place].iter().rfind(|line| line.starts_with("send ")).unwrap();
+            (last[5..10].to_string(), [1, 2, 3].map(|number| printed(place + number)).join(" "))
+        })
+        .collect()
+}
+
+/// The keys vend on while new ones are on request, until each is loaded again (document 02, N3).
+#[test]
+fn a_refresh_leaves_keys_vending() {
+    let (_, script, output) = SCRIPTS[5];
+    let due = [
+        ("SM?KL", "no no no"),
+        ("SM?KF", "yes yes yes"),
+        ("SM?KC", "yes yes yes"),
+        ("SM?KR", "yes yes yes"),
+        ("SM?KL", "yes no yes"),
+        ("SM?KF", "yes yes yes"),
+        ("SM?KL", "yes yes no"),
+        ("SM?KF", "yes yes yes"),
+    ];
+    assert_eq!(vending(script, output), due.map(|(request, answers)| (request.to_string(), answers.to_string())));
 }
 
 /// The response to the call that a line hands in.

@@ -1,16 +1,18 @@
 //! Wrong engines, among them the slips that document 01 has "seen in class":
-//! demand 3 or the comparison must find each, and the console script of what is found
-//! must replay it.
+//! demand 3, the sentences on marks or the comparison must find each, and the console
+//! script of what is found must replay it.
 
 use reference::console::{self, row_lines};
 use reference::demand3::{self, Word};
 use reference::fields::Reader;
+use reference::harness::history::{self, Sentences};
 use reference::harness::tables::Tables;
 use reference::harness::{
-    history, parts, requests, run, scenes, try_fixed, try_fuzz, try_run, Bench, Engine, Failure, Reference,
+    parts, requests, run, scenes, try_fixed, try_fuzz, try_run, Bench, Engine, Failure, Reference,
 };
-use reference::rows::{IDLE, LOADING, PENDING};
+use reference::rows::{self, CLOSED, IDLE, LOADING, OPEN, PENDING};
 use reference::{cards, records, Command, RegisterRow, SlotRow, Supplement};
+use std::cell::RefCell;
 
 type Response = (u8, u8, usize);
 
@@ -44,8 +46,14 @@ impl Call<'_> {
 
 type Handle = fn(&mut Call) -> Response;
 
-/// `handle`, and whether `usable` lets PENDING vend.
-struct Wrong<F>(F, bool);
+/// Says of a key that stands in sound rows whether it may vend.
+type Vends = fn(&[SlotRow], &RegisterRow) -> bool;
+
+/// Document 02, N3.
+const RIGHT: Vends = |_, row| row.mark == CLOSED;
+
+/// `handle`, and which keys may vend.
+struct Wrong<F>(F, Vends);
 
 impl<F: Fn(&mut Call) -> Response> Engine for Wrong<F> {
     fn handle(
@@ -69,12 +77,21 @@ impl<F: Fn(&mut Call) -> Response> Engine for Wrong<F> {
         register_count: usize,
         register: usize,
     ) -> bool {
-        let mut slots = slots.to_vec();
-        if self.1 {
-            slots.iter_mut().filter(|slot| slot.state == PENDING).for_each(make_idle);
+        let (Some(slots), Some(registers)) = (slots.get(..slot_count), registers.get(..register_count)) else {
+            return false;
+        };
+        if !rows::counts_in_range(slot_count, register_count) || !rows::are_sound(slots, registers) {
+            return false;
         }
-        Reference.usable(&slots, registers, slot_count, register_count, register)
+        let row = register.checked_sub(1).and_then(|place| registers.get(place));
+        row.is_some_and(|row| !row.is_free() && self.1(slots, row))
     }
+}
+
+/// The state of a key's slot.
+fn state_of(slots: &[SlotRow], row: &RegisterRow) -> Option<u8> {
+    let slot = cards::stored(&row.card).and_then(|card| rows::slot_named(slots, card.slot()))?;
+    Some(slots[slot].state)
 }
 
 fn make_idle(slot: &mut SlotRow) {
@@ -269,11 +286,15 @@ fn stored_otherwise(call: &mut Call, other: impl Fn(&[u8], &[u8]) -> Vec<u8>) ->
         [format!("N{register}~").into_bytes(), requests::string(&other(old, card))].concat()
     });
     if let Word::Load { n, card, .. } = call.word(answer.2) {
-        let row = &mut call.registers[n as usize - 1];
-        *row = RegisterRow::FREE;
-        row.card[..card.len()].copy_from_slice(&card);
+        call.registers[n as usize - 1] = row_of(&card, OPEN);
     }
     answer
+}
+
+fn row_of(card: &[u8], mark: u8) -> RegisterRow {
+    let mut row = RegisterRow { mark, ..RegisterRow::FREE };
+    row.card[..card.len()].copy_from_slice(card);
+    row
 }
 
 fn an_absent_sgn_is_stored_as_empty(call: &mut Call) -> Response {
@@ -354,12 +375,14 @@ fn an_sgn_of_25_bytes_passes(call: &mut Call) -> Response {
 
 /// Answers as if some registers held other cards; what the call does not change stays.
 fn over_other_cards(call: &mut Call, other: fn(&[u8]) -> Option<Vec<u8>>) -> Response {
+    over_other_rows(call, |_, row| Some(row_of(&other(cards::written(&row.card))?, row.mark)))
+}
+
+/// Answers as if some register rows were others; what the call does not change stays.
+fn over_other_rows(call: &mut Call, other: impl Fn(&[SlotRow], &RegisterRow) -> Option<RegisterRow>) -> Response {
     let before = call.registers.to_vec();
     for row in call.registers.iter_mut() {
-        if let Some(card) = other(cards::written(&row.card)) {
-            *row = RegisterRow::FREE;
-            row.card[..card.len()].copy_from_slice(&card);
-        }
+        *row = other(call.slots, row).unwrap_or(*row);
     }
     let changed = call.registers.to_vec();
     let answer = call.right();
@@ -390,6 +413,167 @@ fn a_row_with_sgn_before_sgc_is_sound(call: &mut Call) -> Response {
     })
 }
 
+/// Marks of its own after an accepted call: `other` has what the call means, the row before it and the row after it.
+fn marked_otherwise(call: &mut Call, other: impl Fn(&Word, &RegisterRow, &RegisterRow) -> u8) -> Response {
+    let before = call.registers.to_vec();
+    let answer = call.right();
+    let word = call.word(answer.2);
+    if word != Word::Nothing {
+        for (row, before) in call.registers.iter_mut().zip(&before).take(call.counts.1) {
+            row.mark = other(&word, before, row);
+        }
+    }
+    answer
+}
+
+fn kf_closes_every_key(call: &mut Call) -> Response {
+    marked_otherwise(call, |word, _, row| if matches!(word, Word::Close(_)) { CLOSED } else { row.mark })
+}
+
+fn kf_closes_none(call: &mut Call) -> Response {
+    marked_otherwise(call, |word, before, row| if matches!(word, Word::Close(_)) { before.mark } else { row.mark })
+}
+
+/// The slot's keys of the lowest register alone.
+fn kf_closes_one(call: &mut Call) -> Response {
+    let closed = RefCell::new(false);
+    marked_otherwise(call, |word, before, row| match word {
+        Word::Close(_) if before.mark != row.mark && closed.replace(true) => before.mark,
+        _ => row.mark,
+    })
+}
+
+/// An SM?KF that comes before the response ends no session, and closes none.
+fn kf_of_a_pending_slot_closes_none(call: &mut Call) -> Response {
+    let pending: Vec<Vec<u8>> =
+        call.slots.iter().filter(|slot| slot.state == PENDING).map(|slot| slot.name().to_vec()).collect();
+    marked_otherwise(call, |word, before, row| match word {
+        Word::Close(slot) if pending.contains(slot) => before.mark,
+        _ => row.mark,
+    })
+}
+
+/// Keys that were loaded before an SM?KR stay open: kept by slot, SGC and KRN.
+fn kf_closes_only_what_its_session_loaded(call: &mut Call, loaded: &RefCell<Vec<[Vec<u8>; 3]>>) -> Response {
+    let key = |row: &RegisterRow| {
+        cards::stored(&row.card).map(|card| [card.slot(), card.pair().0, card.pair().1].map(<[u8]>::to_vec))
+    };
+    let answer = marked_otherwise(call, |word, before, row| match word {
+        Word::Close(_) if !key(row).is_some_and(|key| loaded.borrow().contains(&key)) => before.mark,
+        _ => row.mark,
+    });
+    match call.word(answer.2) {
+        Word::Open(slot) => loaded.borrow_mut().retain(|[other, _, _]| *other != slot),
+        Word::Load { s, g, r, .. } => loaded.borrow_mut().push([s, g, r]),
+        _ => {}
+    }
+    answer
+}
+
+fn a_reset_leaves_keys_open(call: &mut Call) -> Response {
+    marked_otherwise(call, |word, before, row| if *word == Word::Reset { before.mark } else { row.mark })
+}
+
+fn a_reset_leaves_keys_of_pending_open(call: &mut Call) -> Response {
+    let slots = call.slots.to_vec();
+    marked_otherwise(call, |word, before, row| match word {
+        Word::Reset if state_of(&slots, before) == Some(PENDING) => before.mark,
+        _ => row.mark,
+    })
+}
+
+fn kc_closes(call: &mut Call) -> Response {
+    marked_otherwise(call, |word, _, row| match word {
+        Word::Restart(slot) if of_slot(row, slot) => CLOSED,
+        _ => row.mark,
+    })
+}
+
+/// So that keys on refresh are dead, as by the rule of document 01.
+fn kc_opens(call: &mut Call) -> Response {
+    marked_otherwise(call, |word, _, row| match word {
+        Word::Restart(slot) if of_slot(row, slot) => OPEN,
+        _ => row.mark,
+    })
+}
+
+fn kr_closes(call: &mut Call) -> Response {
+    marked_otherwise(call, |word, _, row| match word {
+        Word::Open(slot) if of_slot(row, slot) => CLOSED,
+        _ => row.mark,
+    })
+}
+
+fn kr_opens(call: &mut Call) -> Response {
+    marked_otherwise(call, |word, _, row| match word {
+        Word::Open(slot) if of_slot(row, slot) => OPEN,
+        _ => row.mark,
+    })
+}
+
+fn a_load_leaves_its_key_closed(call: &mut Call) -> Response {
+    marked_otherwise(call, |word, before, row| match word {
+        Word::Load { .. } if before.is_free() => before.mark,
+        _ => row.mark,
+    })
+}
+
+fn a_reload_stays_closed(call: &mut Call) -> Response {
+    marked_otherwise(call, |word, before, row| match word {
+        Word::Load { .. } if !before.is_free() => before.mark,
+        _ => row.mark,
+    })
+}
+
+fn a_load_opens_every_key_of_its_slot(call: &mut Call) -> Response {
+    marked_otherwise(call, |word, _, row| match word {
+        Word::Load { s, .. } if of_slot(row, s) => OPEN,
+        _ => row.mark,
+    })
+}
+
+fn kx_leaves_a_mark(call: &mut Call) -> Response {
+    marked_otherwise(call, |word, before, row| match word {
+        Word::DeleteSlot(_) => before.mark,
+        _ => row.mark,
+    })
+}
+
+fn kd_leaves_a_mark(call: &mut Call) -> Response {
+    marked_otherwise(call, |word, before, row| match word {
+        Word::DeleteKey(_) => before.mark,
+        _ => row.mark,
+    })
+}
+
+/// Answers as if some rows were closed.
+fn over_closed_rows(call: &mut Call, chosen: fn(&[SlotRow], &RegisterRow) -> bool) -> Response {
+    over_other_rows(call, |slots, row| chosen(slots, row).then_some(RegisterRow { mark: CLOSED, ..*row }))
+}
+
+fn an_open_key_under_idle_is_sound(call: &mut Call) -> Response {
+    over_closed_rows(call, |slots, row| row.mark == OPEN && state_of(slots, row) == Some(IDLE))
+}
+
+fn a_mark_of_2_is_sound(call: &mut Call) -> Response {
+    over_closed_rows(call, |_, row| row.mark == 2 && !row.is_free())
+}
+
+fn a_mark_above_1_is_sound(call: &mut Call) -> Response {
+    over_closed_rows(call, |_, row| row.mark > 1 && !row.is_free())
+}
+
+fn a_mark_beside_zeros_is_sound(call: &mut Call) -> Response {
+    over_closed_rows(call, |_, row| row.mark == OPEN && row.is_free())
+}
+
+fn an_open_key_under_pending_is_unsound(call: &mut Call) -> Response {
+    over_other_rows(call, |slots, row| {
+        let open = row.mark == OPEN && state_of(slots, row) == Some(PENDING);
+        open.then_some(RegisterRow { mark: 2, ..*row })
+    })
+}
+
 /// The current fingerprint and the new one change places.
 fn kq_tells_the_new_fingerprint_as_current(call: &mut Call) -> Response {
     rewritten(call, Command::KQ, |fields| {
@@ -411,13 +595,21 @@ fn refuses_all(_: &mut Call) -> Response {
     (1, 255, 0)
 }
 
-fn demand_3(engine: Handle) -> Result<(), String> {
-    history::demand_3(&mut Wrong(engine, false), 4000, 7)
+/// Any engine, also one that remembers.
+type Asked<'a> = &'a dyn Fn(&mut Call) -> Response;
+
+fn demand_3(engine: Asked) -> Result<(), String> {
+    history::check(&mut Wrong(engine, RIGHT), Sentences::Demand3, 4000, 7)
+}
+
+fn sentences_on_marks(engine: Asked, vends: Vends) -> Result<(), String> {
+    history::check(&mut Wrong(engine, vends), Sentences::Marks, 4000, 7)
 }
 
 #[test]
-fn the_right_engine_meets_demand_3() {
-    demand_3(|call| call.right()).unwrap();
+fn the_right_engine_meets_the_sentences() {
+    demand_3(&|call| call.right()).unwrap();
+    sentences_on_marks(&|call| call.right(), RIGHT).unwrap();
 }
 
 #[test]
@@ -430,7 +622,7 @@ fn demand_3_finds_the_wrong_engines() {
         ("a load stores nothing", stores_nothing, "2:"),
         ("a read closes sessions", a_read_closes_sessions, "the last one only reads"),
     ] {
-        let broken = demand_3(engine).expect_err(name);
+        let broken = demand_3(&engine).expect_err(name);
         println!("{name}: {broken}");
         assert!(broken.contains(&format!("requests: {sentence}")), "{name}: {broken}");
     }
@@ -439,29 +631,31 @@ fn demand_3_finds_the_wrong_engines() {
 /// What demand 3 alone lets through, the comparison stops.
 #[test]
 fn the_comparison_finds_the_rest() {
-    for (name, engine, pending_vends) in [
-        ("a bad tag closes the session", bad_tag_closes_the_session as Handle, false),
-        ("a byte past the response", writes_past_its_response, false),
-        ("all refused", refuses_all, false),
-        ("KQ tells the new fingerprint as current", kq_tells_the_new_fingerprint_as_current, false),
-        ("PENDING vends", |call| call.right(), true),
+    for (name, engine) in [
+        ("a bad tag closes the session", bad_tag_closes_the_session as Handle),
+        ("a byte past the response", writes_past_its_response),
+        ("all refused", refuses_all),
+        ("KQ tells the new fingerprint as current", kq_tells_the_new_fingerprint_as_current),
     ] {
-        assert!(demand_3(engine).is_ok(), "{name}");
-        let difference = try_run(&mut Wrong(engine, pending_vends), 300, 7).expect_err(name);
-        let start = if pending_vends { "difference after call" } else { "difference in call" };
-        assert!(difference.text.starts_with(start), "{name}: {}", difference.text);
+        assert!(demand_3(&engine).is_ok(), "{name}");
+        let difference = try_run(&mut Wrong(engine, RIGHT), 300, 7).expect_err(name);
+        assert!(difference.text.starts_with(IN_CALL), "{name}: {}", difference.text);
     }
 }
 
+/// How the text of a difference begins, where `handle` is wrong and where `usable` is.
+const IN_CALL: &str = "difference in call";
+const AFTER_CALL: &str = "difference after call";
+
 /// Demand 3 lets the engine through; fixed parts and random calls each find it.
-fn is_found_by_both(name: &str, engine: Handle) {
+fn is_found_by_both(name: &str, engine: Asked, vends: Vends, start: &str) {
     assert!(demand_3(engine).is_ok(), "{name}");
     for (calls, run) in
-        [("fixed", try_fixed(&mut Wrong(engine, false))), ("random", try_fuzz(&mut Wrong(engine, false), 8000, 7))]
+        [("fixed", try_fixed(&mut Wrong(engine, vends))), ("random", try_fuzz(&mut Wrong(engine, vends), 20_000, 7))]
     {
         let difference = run.expect_err(&format!("{name}, {calls}")).text;
         println!("{name}, {calls}: {}", difference.lines().next().unwrap_or_default());
-        assert!(difference.starts_with("difference in call"), "{name}, {calls}: {difference}");
+        assert!(difference.starts_with(start), "{name}, {calls}: {difference}");
     }
 }
 
@@ -469,7 +663,7 @@ fn is_found_by_both(name: &str, engine: Handle) {
 #[test]
 fn another_list_is_a_difference() {
     let right = |call: &mut Call| relisted(call, |names| names.sort());
-    try_run(&mut Wrong(right, false), 2000, 7).unwrap();
+    try_run(&mut Wrong(right, RIGHT), 2000, 7).unwrap();
     for (name, engine) in [
         ("row by row", gl_lists_row_by_row as Handle),
         ("descending", gl_lists_descending),
@@ -481,7 +675,7 @@ fn another_list_is_a_difference() {
         ("one left out", gl_leaves_one_out),
         ("one twice", gl_lists_a_slot_twice),
     ] {
-        is_found_by_both(name, engine);
+        is_found_by_both(name, &engine, RIGHT, IN_CALL);
     }
 }
 
@@ -489,7 +683,7 @@ fn another_list_is_a_difference() {
 #[test]
 fn another_group_name_is_a_difference() {
     let right = |call: &mut Call| stored_otherwise(call, |_, card| named(card, group_entry(card), "ULM"));
-    try_run(&mut Wrong(right, false), 2000, 7).unwrap();
+    try_run(&mut Wrong(right, RIGHT), 2000, 7).unwrap();
     for (name, engine) in [
         ("25 bytes pass", an_sgn_of_25_bytes_passes as Handle),
         ("24 bytes are refused", an_sgn_of_24_bytes_is_refused),
@@ -505,7 +699,70 @@ fn another_group_name_is_a_difference() {
         ("25 bytes sound in a row", a_row_with_an_sgn_of_25_bytes_is_sound),
         ("before SGC sound in a row", a_row_with_sgn_before_sgc_is_sound),
     ] {
-        is_found_by_both(name, engine);
+        is_found_by_both(name, &engine, RIGHT, IN_CALL);
+    }
+}
+
+/// What changes a mark, and when it is sound (document 02, N3). Where a list from empty tables meets it, the sentences
+/// on marks find it, too.
+#[test]
+fn another_mark_is_a_difference() {
+    let right = |call: &mut Call| marked_otherwise(call, |_, _, row| row.mark);
+    try_fuzz(&mut Wrong(right, RIGHT), 20_000, 7).unwrap();
+    let loaded = RefCell::new(Vec::new());
+    let by_session = |call: &mut Call| kf_closes_only_what_its_session_loaded(call, &loaded);
+    for (name, engine, sentence) in [
+        ("SM?KF closes every key", &kf_closes_every_key as Asked, Some("1:")),
+        ("SM?KF closes none", &kf_closes_none, Some("1:")),
+        ("SM?KF closes one", &kf_closes_one, Some("1:")),
+        ("SM?KF of a PENDING slot closes none", &kf_of_a_pending_slot_closes_none, Some("1:")),
+        ("SM?KF closes only what its session loaded", &by_session, Some("1:")),
+        ("a reset leaves keys open", &a_reset_leaves_keys_open, Some("1:")),
+        ("a reset leaves keys of PENDING open", &a_reset_leaves_keys_of_pending_open, Some("1:")),
+        ("SM?KC closes", &kc_closes, Some("1:")),
+        ("SM?KC opens", &kc_opens, Some("1:")),
+        ("SM?KR closes", &kr_closes, Some("1:")),
+        ("SM?KR opens", &kr_opens, Some("1:")),
+        ("a load leaves its key closed", &a_load_leaves_its_key_closed, Some("1:")),
+        ("a reload stays closed", &a_reload_stays_closed, Some("1:")),
+        ("a load opens every key of its slot", &a_load_opens_every_key_of_its_slot, Some("1:")),
+        ("SM?KX leaves a mark", &kx_leaves_a_mark, Some("4:")),
+        ("SM?KD leaves a mark", &kd_leaves_a_mark, Some("4:")),
+        ("an open key under PENDING is unsound", &an_open_key_under_pending_is_unsound, None),
+        ("an open key under IDLE is sound", &an_open_key_under_idle_is_sound, None),
+        ("a mark of 2 is sound", &a_mark_of_2_is_sound, None),
+        ("a mark above 1 is sound", &a_mark_above_1_is_sound, None),
+        ("a mark beside zeros is sound", &a_mark_beside_zeros_is_sound, None),
+    ] {
+        is_found_by_both(name, engine, RIGHT, IN_CALL);
+        is_found_by_sentences(name, engine, RIGHT, sentence);
+    }
+}
+
+/// Exactly the closed keys may vend, whatever the state of their slots (document 02, N3).
+#[test]
+fn another_usable_key_is_a_difference() {
+    for (name, vends) in [
+        ("by the slot's state", (|slots, row| state_of(slots, row) == Some(IDLE)) as Vends),
+        ("not while PENDING", |slots, row| row.mark == CLOSED && state_of(slots, row) != Some(PENDING)),
+        ("not while LOADING", |slots, row| row.mark == CLOSED && state_of(slots, row) != Some(LOADING)),
+        ("open keys too", |_, _| true),
+        ("open keys of PENDING too", |slots, row| row.mark == CLOSED || state_of(slots, row) == Some(PENDING)),
+        ("open keys alone", |_, row| row.mark == OPEN),
+    ] {
+        is_found_by_both(name, &|call| call.right(), vends, AFTER_CALL);
+        is_found_by_sentences(name, &|call| call.right(), vends, Some("2:"));
+    }
+}
+
+/// The sentence that is broken, if any is.
+fn is_found_by_sentences(name: &str, engine: Asked, vends: Vends, sentence: Option<&str>) {
+    let broken = sentences_on_marks(engine, vends);
+    println!("{name}: {broken:?}");
+    match (broken, sentence) {
+        (Ok(()), None) => {}
+        (Err(text), Some(sentence)) if text.contains(&format!("requests: {sentence}")) => {}
+        (broken, sentence) => panic!("{name}: {broken:?}, and {sentence:?} is due"),
     }
 }
 
@@ -569,17 +826,19 @@ fn replayed(failure: &Failure) -> String {
 
 #[test]
 fn a_difference_is_replayed_by_its_script() {
-    for (name, engine, pending_vends) in [
-        ("a bad tag closes the session", bad_tag_closes_the_session as Handle, false),
-        ("a byte past the response", writes_past_its_response, false),
-        ("all refused", refuses_all, false),
-        ("GL lists a slot twice", gl_lists_a_slot_twice, false),
-        ("GL lists row by row", gl_lists_row_by_row, false),
-        ("SGN is dropped", sgn_is_dropped, false),
-        ("KX leaves the keys", kx_leaves_keys, false),
-        ("PENDING vends", |call| call.right(), true),
+    for (name, engine, vends) in [
+        ("a bad tag closes the session", bad_tag_closes_the_session as Handle, RIGHT),
+        ("a byte past the response", writes_past_its_response, RIGHT),
+        ("all refused", refuses_all, RIGHT),
+        ("GL lists a slot twice", gl_lists_a_slot_twice, RIGHT),
+        ("GL lists row by row", gl_lists_row_by_row, RIGHT),
+        ("SGN is dropped", sgn_is_dropped, RIGHT),
+        ("KX leaves the keys", kx_leaves_keys, RIGHT),
+        ("KF closes every key", kf_closes_every_key, RIGHT),
+        ("a mark beside zeros is sound", a_mark_beside_zeros_is_sound, RIGHT),
+        ("open keys vend", |call| call.right(), |_, _| true),
     ] {
-        let mut beside = Beside { wrong: Wrong(engine, pending_vends), right: String::new() };
+        let mut beside = Beside { wrong: Wrong(engine, vends), right: String::new() };
         let failure = try_run(&mut beside, 300, 7).expect_err(name);
         assert_eq!(replayed(&failure), beside.right, "{name}");
     }
@@ -588,8 +847,8 @@ fn a_difference_is_replayed_by_its_script() {
 /// A run prints the script, and writes it to a file beside the program.
 #[test]
 fn a_run_leaves_its_script() {
-    let failure = try_run(&mut Wrong(refuses_all, false), 300, 7).unwrap_err();
-    let stopped = std::panic::catch_unwind(|| run(&mut Wrong(refuses_all, false), 300, 7));
+    let failure = try_run(&mut Wrong(refuses_all, RIGHT), 300, 7).unwrap_err();
+    let stopped = std::panic::catch_unwind(|| run(&mut Wrong(refuses_all, RIGHT), 300, 7));
     assert!(stopped.is_err());
     let file = std::env::current_exe().unwrap().with_file_name("difference-7.txt");
     assert_eq!(std::fs::read(&file).unwrap(), failure.script);
@@ -599,15 +858,20 @@ fn a_run_leaves_its_script() {
 /// The script of a difference in a history has all its calls, from empty tables.
 #[test]
 fn a_history_is_replayed_whole() {
-    for (name, engine, pending_vends) in [
-        ("KC wipes keys", kc_wipes_keys as Handle, false),
-        ("a reload takes a second register", reload_takes_a_second_register, false),
-        ("reset leaves LOADING", reset_leaves_loading, false),
-        ("a load stores nothing", stores_nothing, false),
-        ("a reload keeps the old SGN", a_reload_keeps_the_old_sgn, false),
-        ("PENDING vends", |call| call.right(), true),
+    for (name, engine, vends) in [
+        ("KC wipes keys", kc_wipes_keys as Handle, RIGHT),
+        ("a reload takes a second register", reload_takes_a_second_register, RIGHT),
+        ("reset leaves LOADING", reset_leaves_loading, RIGHT),
+        ("a load stores nothing", stores_nothing, RIGHT),
+        ("a reload keeps the old SGN", a_reload_keeps_the_old_sgn, RIGHT),
+        ("a reload stays closed", a_reload_stays_closed, RIGHT),
+        (
+            "PENDING does not vend",
+            |call| call.right(),
+            |slots, row| row.mark == CLOSED && state_of(slots, row) != Some(PENDING),
+        ),
     ] {
-        let mut beside = Beside { wrong: Wrong(engine, pending_vends), right: String::new() };
+        let mut beside = Beside { wrong: Wrong(engine, vends), right: String::new() };
         let mut bench = Bench::new(&mut beside, 7);
         let difference = history::compare(&mut bench, 4000, 7).expect_err(name);
         let failure = bench.failure(difference);
@@ -645,7 +909,7 @@ fn what_no_line_can_say() {
         ("# Rows beyond the counts,", rows_beyond, |_| true),
         ("# Rows beyond the counts,", nine_slots, |_| true),
     ] {
-        let wrong = Wrong(|call: &mut Call| if odd(call) { (9, 255, 0) } else { call.right() }, false);
+        let wrong = Wrong(|call: &mut Call| if odd(call) { (9, 255, 0) } else { call.right() }, RIGHT);
         let mut beside = Beside { wrong, right: String::new() };
         let mut bench = Bench::new(&mut beside, 7);
         let difference = part(&mut bench).expect_err(comment);

@@ -48,6 +48,10 @@ changed cat
 finds "sed 's/PA~PB~7FFA/PB~PA~8FBE/'"
 finds "sed 's/PA~PB~7FFA/PA~PA~8FFA/'"
 finds "sed 's/SGN;ULM1000;VND0;~A239/ULM1000;VND0;~578C/'"
+# A key closed that is open, one open that is closed, and a mark beside a card of zeros left out.
+finds "sed 's/^register 1 1 /register 1 0 /'"
+finds "sed 's/^register 3 0 /register 3 1 /'"
+finds "sed '/^register 2 1 0*\$/d'"
 finds "sed '\$d'"
 finds "sed '\$p'"
 finds "sed 's/ yes\$/ no/'"

@@ -55,6 +55,8 @@ finds() {
     if "$1" "$work/wrong.h" > "$work/out" 2>&1; then echo "library: $1 passes $2 with $3"; exit 1; fi
 }
 finds compiles $header 's/uint8_t state;/uint16_t state;/'
+finds compiles $header 's/uint8_t mark;/uint16_t mark;/'
+finds compiles $header '/uint8_t mark;/d'
 finds compiles $header 's/(LOAD_REQUEST_MAX) 700/\1 699/'
 finds compiles $header 's/^#define DIMINUREL_H$/&\n;/'
 finds same_header $header 's/(_EXPIRED = )11/\112/'

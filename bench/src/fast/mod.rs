@@ -12,7 +12,7 @@ mod text;
 
 use incoming::Card;
 use records::Identity;
-use reference::rows::{FREE, IDLE, LOADING, MOST_SLOTS, PENDING};
+use reference::rows::{CLOSED, FREE, IDLE, LOADING, MOST_SLOTS, OPEN, PENDING};
 use reference::{Answer, RegisterRow, SlotRow, Supplement};
 use reply::Reply;
 use rows::Known;
@@ -46,7 +46,7 @@ pub fn handle(
     }
 }
 
-/// Whether the key of a register, counted from 1, may vend.
+/// Whether the key of a register, counted from 1, may vend: exactly when it is marked closed (document 02, N3).
 pub fn usable(slots: &[SlotRow], registers: &[RegisterRow], register: usize) -> bool {
     if !rows::counts_in_range(slots.len(), registers.len()) {
         return false;
@@ -58,7 +58,7 @@ pub fn usable(slots: &[SlotRow], registers: &[RegisterRow], register: usize) -> 
     register
         .checked_sub(1)
         .filter(|&place| place < registers.len() && known.keys[place] != 0)
-        .is_some_and(|place| slots[usize::from(known.slots[place])].state == IDLE)
+        .is_some_and(|place| registers[place].mark == CLOSED)
 }
 
 /// Question 4.
@@ -190,7 +190,17 @@ impl<'a> Call<'a> {
             row.state = IDLE;
             row.tvp = [0; 16];
         }
+        for row in self.registers.iter_mut() {
+            row.mark = CLOSED;
+        }
         Ok((None, self.accept().end()))
+    }
+
+    /// The registers whose KSL is a slot.
+    fn keys_of(&mut self, place: usize) -> impl Iterator<Item = &mut RegisterRow> {
+        let known = self.known.keys.iter().zip(&self.known.slots);
+        let own = move |(key, slot): (&u64, &u8)| *key != 0 && usize::from(*slot) == place;
+        self.registers.iter_mut().zip(known).filter(move |(_, known)| own(*known)).map(|(row, _)| row)
     }
 
     fn begin(&mut self, payload: &'a [u8]) -> Asked {
@@ -270,6 +280,7 @@ impl<'a> Call<'a> {
         let place = |wanted: u64| keys.iter().position(|&key| key == wanted);
         let place = place(card.key()).or_else(|| place(0)).ok_or(20)?;
         let row = &mut self.registers[place];
+        row.mark = OPEN;
         let length = card.store(row, name, &self.supplement.check);
         let mut reply = Reply::new(self.response, self.header, b"00");
         Ok((Some(LOADING), reply.number(place + 1).string(&row.card[..length]).end()))
@@ -283,16 +294,17 @@ impl<'a> Call<'a> {
         }
         row.state = IDLE;
         row.tvp = [0; 16];
+        for row in self.keys_of(place) {
+            row.mark = CLOSED;
+        }
         Ok((Some(IDLE), self.accept().end()))
     }
 
     fn delete_slot(&mut self, payload: &'a [u8]) -> Asked {
         let place = self.slot(only_string(payload)?)?;
         self.slots[place] = SlotRow::FREE;
-        for (row, (&key, &slot)) in self.registers.iter_mut().zip(self.known.keys.iter().zip(&self.known.slots)) {
-            if key != 0 && usize::from(slot) == place {
-                *row = RegisterRow::FREE;
-            }
+        for row in self.keys_of(place) {
+            *row = RegisterRow::FREE;
         }
         Ok((Some(FREE), self.accept().end()))
     }

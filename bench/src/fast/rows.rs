@@ -2,7 +2,7 @@
 
 use super::names::Names;
 use super::{stored, text};
-use reference::rows::{FREE, IDLE, LOADING, MOST_REGISTERS, MOST_SLOTS, PENDING};
+use reference::rows::{CLOSED, FREE, IDLE, LOADING, MOST_REGISTERS, MOST_SLOTS, OPEN, PENDING};
 use reference::{RegisterRow, SlotRow};
 
 /// What is known of rows that are sound.
@@ -59,13 +59,17 @@ impl Known {
         let mut met = Met([0; 4]);
         for (place, row) in registers.iter().enumerate() {
             if row.card[0] == 0 {
-                if !text::is_zero(&row.card) {
+                if row.mark != CLOSED || !text::is_zero(&row.card) {
                     return None;
                 }
                 continue;
             }
             let held = stored::judge(&row.card, &self.names)?;
             if met.perhaps(held.key) && self.keys[..place].contains(&held.key) {
+                return None;
+            }
+            // An open key's slot is PENDING or LOADING (document 02, N3).
+            if row.mark != CLOSED && (row.mark != OPEN || slots[held.slot].state == IDLE) {
                 return None;
             }
             self.keys[place] = held.key;

@@ -75,7 +75,7 @@ impl Rows<'_> {
         typed(reply, buffer).unwrap_or(Err(Refused { refusal: Refusal::Misfit, response: &[] }))
     }
 
-    /// Whether the key in a register, counted from 1, may vend. Only a 1 lets it.
+    /// Whether the key in a register, counted from 1, may vend: exactly when it is marked closed. Only a 1 lets it.
     pub fn usable(&self, register: usize) -> bool {
         crate::usable(self.slots, self.registers, register) == 1
     }

@@ -21,11 +21,32 @@ pub struct Slot {
     pub tvp: [u8; 16],
 }
 
-/// A stored card with zeros after it; all zero is free.
+/// A stored card with zeros after it, and its mark: 0 closed, 1 open. All zero is free.
 #[repr(C)]
 #[derive(Clone, Copy, PartialEq, Eq, Debug)]
 pub struct Register {
     pub card: [u8; 256],
+    pub mark: u8,
+}
+
+impl Slot {
+    pub const FREE: Slot = Slot { state: 0, kmcid: [0; 40], fingerprint: [0; 16], tvp: [0; 16] };
+}
+
+impl Register {
+    pub const FREE: Register = Register::closed([0; 256]);
+
+    /// A row that a version before 0.4.0 stored: a card of 256 bytes, and no mark. After such rows the host hands in
+    /// GL?RS before anything else.
+    pub const fn closed(card: [u8; 256]) -> Self {
+        Register { card, mark: 0 }
+    }
+
+    /// Whether the key is open: from its load on, until SM?KF of its slot or GL?RS. Of sound rows just the keys that are
+    /// not open may vend.
+    pub const fn is_open(&self) -> bool {
+        self.mark == 1
+    }
 }
 
 /// What is handed in beside a request.

@@ -28,7 +28,7 @@ impl Random {
     }
 
     fn register(&mut self) -> Register {
-        Register { card: self.bytes() }
+        Register { card: self.bytes(), mark: self.byte() }
     }
 
     fn supplement(&mut self) -> Supplement {
@@ -44,9 +44,6 @@ impl Random {
         }
     }
 }
-
-const FREE_SLOT: Slot = Slot { state: 0, kmcid: [0; 40], fingerprint: [0; 16], tvp: [0; 16] };
-const FREE_REGISTER: Register = Register { card: [0; 256] };
 
 fn good_supplement() -> Supplement {
     let own = b"SMID.1:Prism:12345678:20130303T153830Z:E7C42215AF1FE951:9C7D";
@@ -88,8 +85,8 @@ fn call(random: &mut Random, turn: usize) -> Call {
     let (slots, registers) = (random.below(11), random.below(36));
     let (length, room) = (random.below(1_100), random.below(1_100));
     Call {
-        slots: (0..slots).map(|_| if is_free { FREE_SLOT } else { random.slot() }).collect(),
-        registers: (0..registers).map(|_| if is_free { FREE_REGISTER } else { random.register() }).collect(),
+        slots: (0..slots).map(|_| if is_free { Slot::FREE } else { random.slot() }).collect(),
+        registers: (0..registers).map(|_| if is_free { Register::FREE } else { random.register() }).collect(),
         supplement: if turn % 2 == 0 { good_supplement() } else { random.supplement() },
         request: if framed { GOOD[random.below(3)].to_vec() } else { random.list(length) },
         buffer: random.list(if framed { 1_024 + room } else { room }),

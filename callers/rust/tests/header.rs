@@ -12,6 +12,7 @@ fn version() {
 #[test]
 fn sizes() {
     let rows = (size_of::<diminurel::Slot>(), size_of::<diminurel::Register>());
-    assert_eq!(rows, (73, 256));
+    assert_eq!(rows, (73, 257));
+    assert_eq!(std::mem::offset_of!(diminurel::Register, mark), 256);
     assert_eq!((size_of::<diminurel::Supplement>(), size_of::<diminurel::Reply>()), (920, 16));
 }

@@ -8,7 +8,7 @@ use reference::{RegisterRow, SlotRow, Supplement};
 use diminurel::{Register, Slot};
 
 const SLOT_BEYOND: Slot = Slot { state: 0xA5, kmcid: [0xA5; 40], fingerprint: [0xA5; 16], tvp: [0xA5; 16] };
-const REGISTER_BEYOND: Register = Register { card: [0xA5; 256] };
+const REGISTER_BEYOND: Register = Register { card: [0xA5; 256], mark: 0xA5 };
 
 /// As many rows as there are; those past the harness's places are of any content.
 fn lent_slots(rows: &[SlotRow], count: usize) -> Vec<Slot> {
@@ -17,7 +17,8 @@ fn lent_slots(rows: &[SlotRow], count: usize) -> Vec<Slot> {
 }
 
 fn lent_registers(rows: &[RegisterRow], count: usize) -> Vec<Register> {
-    (0..count).map(|place| rows.get(place).map_or(REGISTER_BEYOND, |row| Register { card: row.card })).collect()
+    let lent = |row: &RegisterRow| Register { card: row.card, mark: row.mark };
+    (0..count).map(|place| rows.get(place).map_or(REGISTER_BEYOND, lent)).collect()
 }
 
 fn lent_supplement(x: &Supplement) -> diminurel::Supplement {
@@ -55,7 +56,7 @@ impl Engine for Linked {
             *own = SlotRow { state: row.state, kmcid: row.kmcid, fingerprint: row.fingerprint, tvp: row.tvp };
         }
         for (own, row) in registers.iter_mut().zip(&lent.1) {
-            *own = RegisterRow { card: row.card };
+            *own = RegisterRow { card: row.card, mark: row.mark };
         }
         (reply.outcome, reply.state, reply.length)
     }

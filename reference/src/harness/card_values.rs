@@ -105,7 +105,7 @@ fn kept(bench: &mut Bench) -> Result<(), String> {
     let optional = "CLM44FA0000;DKG02;IUT20150301T140000Z;KEN";
     let full = String::from_utf8_lossy(CARD).replace("DKG04;KEN", optional).replace("SGC", "SBM0001;SGC");
     bench.expect(0, &mut tables, &supplement, &load(format!("{full}SGNMy group;ULM1000;").as_bytes()), 1024)?;
-    let row = tables.registers[2];
+    let card = tables.registers[2].card;
     for request in [
         requests::of_register(Command::KD, 1),
         requests::bare(Command::RS),
@@ -118,7 +118,7 @@ fn kept(bench: &mut Bench) -> Result<(), String> {
         requests::bare(Command::GL),
     ] {
         bench.expect(0, &mut tables, &supplement, &request, 1024)?;
-        if tables.registers[2] != row {
+        if tables.registers[2].card != card {
             return Err("a card changed that no request named".to_string());
         }
     }

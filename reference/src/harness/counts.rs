@@ -3,7 +3,8 @@
 use super::kinds::{self, BAD_PARTS, UNSOUND};
 use super::tables::Tables;
 use super::{requests, Failure, LONGEST_BUFFER};
-use crate::rows::{self, IDLE, LOADING, MOST_REGISTERS, MOST_SLOTS, PENDING};
+use crate::demand3::Word;
+use crate::rows::{self, IDLE, LOADING, MOST_REGISTERS, MOST_SLOTS, OPEN, PENDING};
 use crate::{cards, Command, Supplement};
 use std::fmt;
 
@@ -24,6 +25,16 @@ const REFUSALS: [&[usize]; 10] = [
 /// Cards without SGN, and with one of 0 to 24 bytes.
 const GROUP_NAMES: usize = 26;
 
+/// Keys that an accepted command meets: of the slot that it names, or any where it names none; of the register that it
+/// deletes or loads into.
+const MET: [&str; 4] = ["a closed key", "an open key", "a closed key of another slot", "an open key of another slot"];
+
+/// How many of these there are for a command that changes rows; those that only read have none.
+const MEETS: [usize; 10] = [2, 4, 4, 4, 4, 4, 2, 0, 0, 0];
+
+/// Keys by the state of their slot.
+const OWNERS: [(u8, &str); 3] = [(PENDING, "PENDING"), (LOADING, "LOADING"), (IDLE, "IDLE")];
+
 /// How often each thing that matters came up.
 #[derive(Clone, Debug)]
 pub struct Counts {
@@ -43,8 +54,12 @@ pub struct Counts {
     pub reloads: [[u64; 2]; 2],
     /// SM?KL refused with 10 for nothing but an SGN of 25 bytes, of 26 and of more.
     pub long_names: [u64; 3],
+    /// Accepted commands by the keys that they met, each counted once a call.
+    pub met: [[u64; MET.len()]; 10],
     /// Answers of `usable`: no, yes.
     pub usable: [u64; 2],
+    /// The same of keys that stand in sound rows, by the state of their slot.
+    pub vending: [[u64; 2]; OWNERS.len()],
     /// Calls by slot count and register count.
     pub row_counts: [[u64; MOST_REGISTERS + 2]; MOST_SLOTS + 2],
     /// Calls by length of the buffer.
@@ -56,7 +71,7 @@ pub struct Counts {
     pub bad_parts: [u64; BAD_PARTS.len()],
     /// Calls of each part of the run.
     pub parts: Vec<(&'static str, u64)>,
-    /// Histories from empty tables on which demand 3 was checked after every call.
+    /// Histories from empty tables on which demand 3 and the sentences on marks were checked after every call.
     pub histories: u64,
     /// Single-byte edits made, and how many there are.
     pub edits: (u64, u64),
@@ -74,7 +89,9 @@ impl Counts {
             told_names: [0; GROUP_NAMES],
             reloads: [[0; 2]; 2],
             long_names: [0; 3],
+            met: [[0; MET.len()]; 10],
             usable: [0; 2],
+            vending: [[0; 2]; OWNERS.len()],
             row_counts: [[0; MOST_REGISTERS + 2]; MOST_SLOTS + 2],
             buffers: [0; LONGEST_BUFFER + 1],
             unsound: [0; UNSOUND.len()],
@@ -90,8 +107,16 @@ impl Counts {
         self.outcomes.iter().sum()
     }
 
-    /// Counts a call by what it was made with and by its outcome.
-    pub fn count(&mut self, tables: &Tables, supplement: &Supplement, request: &[u8], buffer: usize, outcome: u8) {
+    /// Counts a call by what it was made with, by its outcome and by what it and its answer mean to the sentences.
+    pub fn count(
+        &mut self,
+        tables: &Tables,
+        supplement: &Supplement,
+        request: &[u8],
+        buffer: usize,
+        outcome: u8,
+        word: &Word,
+    ) {
         self.outcomes[usize::from(outcome)] += 1;
         if let Some((_, calls)) = self.parts.last_mut() {
             *calls += 1;
@@ -105,6 +130,7 @@ impl Counts {
                 (Command::GA, 0) => self.count_told(tables, request),
                 _ => {}
             }
+            self.count_met(tables, place, word);
         }
         self.row_counts[tables.slot_count][tables.register_count] += 1;
         self.buffers[buffer] += 1;
@@ -129,6 +155,47 @@ impl Counts {
         if let Some(old) = held.and_then(|register| cards::stored(&tables.registers[register].card)) {
             let [old, new] = [old, card].map(|card| usize::from(card.group_name().is_some()));
             self.reloads[old][new] += 1;
+        }
+    }
+
+    fn count_met(&mut self, tables: &Tables, command: usize, word: &Word) {
+        // The slot whose keys are its own, or none where all are; and the one row, where there is but one.
+        let (own, only) = match word {
+            Word::Reset => (None, None),
+            Word::Restart(slot) | Word::Open(slot) | Word::Close(slot) | Word::DeleteSlot(slot) => (Some(slot), None),
+            Word::Load { s, n, .. } => (Some(s), Some(*n)),
+            Word::DeleteKey(n) => (None, Some(*n)),
+            Word::Read | Word::Nothing => return,
+        };
+        let mut met = [false; MET.len()];
+        for (number, row) in (1..).zip(tables.registers()) {
+            if only.is_some_and(|only| only != number) {
+                continue;
+            }
+            let Some(card) = cards::stored(&row.card) else { continue };
+            let other = own.is_some_and(|own| card.slot() != own);
+            met[usize::from(row.mark == OPEN) + 2 * usize::from(other)] = true;
+        }
+        for (count, met) in self.met[command].iter_mut().zip(met) {
+            *count += u64::from(met);
+        }
+    }
+
+    /// Counts an answer of `usable` to a register counted from 1.
+    pub fn count_usable(&mut self, tables: &Tables, register: usize, yes: bool) {
+        self.usable[usize::from(yes)] += 1;
+        let row = register.checked_sub(1).and_then(|place| tables.registers().get(place));
+        let Some(card) = row.and_then(|row| cards::stored(&row.card)) else { return };
+        // A closed key that may not vend stands in rows that are not sound, or too many.
+        let sound = yes
+            || row.is_some_and(|row| row.mark == OPEN)
+                && rows::counts_in_range(tables.slot_count, tables.register_count)
+                && rows::are_sound(tables.slots(), tables.registers());
+        if let Some(slot) = rows::slot_named(tables.slots(), card.slot()).filter(|_| sound) {
+            let state = tables.slots[slot].state;
+            if let Some(owner) = OWNERS.iter().position(|(owner, _)| *owner == state) {
+                self.vending[owner][usize::from(yes)] += 1;
+            }
         }
     }
 
@@ -207,8 +274,19 @@ impl Counts {
         for (&count, length) in self.long_names.iter().zip(["25 bytes", "26 bytes", "more than 26 bytes"]) {
             ask(count, format!("load refused for an SGN of {length}"));
         }
+        for ((command, counts), kinds) in Command::ALL.iter().zip(&self.met).zip(MEETS) {
+            for (&count, kind) in counts.iter().zip(MET).take(kinds) {
+                ask(count, format!("{} over {kind}", name(command)));
+            }
+        }
         for (answer, &count) in ["no", "yes"].iter().zip(&self.usable) {
             ask(count, format!("usable {answer}"));
+        }
+        for (&(state, owner), &[open, closed]) in OWNERS.iter().zip(&self.vending) {
+            ask(closed, format!("key that may vend under {owner}"));
+            if state != IDLE {
+                ask(open, format!("key that may not vend under {owner}"));
+            }
         }
         for (slots, counts) in self.row_counts.iter().enumerate() {
             for (registers, &count) in counts.iter().enumerate() {
@@ -265,7 +343,7 @@ impl fmt::Display for Counts {
         if self.edits.1 > 0 {
             writeln!(out, "  single-byte edits: {} of {}", self.edits.0, self.edits.1)?;
         }
-        writeln!(out, "  histories that demand 3 was checked on: {}", self.histories)?;
+        writeln!(out, "  histories that demand 3 and the marks were checked on: {}", self.histories)?;
         writeln!(out, "  row counts: {}", spread(self.row_counts.iter().flatten()))?;
         writeln!(out, "  buffer lengths: {}", spread(self.buffers.iter()))?;
         writeln!(out, "  rows with a fault alone: {}", spread(self.unsound_rows.iter()))?;
@@ -277,6 +355,8 @@ impl fmt::Display for Counts {
         writeln!(out, "  loads refused for a longer SGN alone: {}", self.long_names.iter().sum::<u64>())?;
         writeln!(out, "  reloads with SGN or without, over one or none: {}", spread(self.reloads.iter().flatten()))?;
         writeln!(out, "  cards of SM?GA by SGN: {}", spread(self.told_names.iter()))?;
+        let met = self.met.iter().zip(MEETS).flat_map(|(counts, kinds)| &counts[..kinds]);
+        writeln!(out, "  commands over closed keys and open ones, of their slot or another: {}", spread(met))?;
         writeln!(out, "calls and acceptances")?;
         for (command, counts) in Command::ALL.iter().zip(self.commands) {
             writeln!(out, "  {} {:>9} {:>9}", name(command), counts.iter().sum::<u64>(), counts[0])?;
@@ -289,7 +369,12 @@ impl fmt::Display for Counts {
         for (kind, count) in UNSOUND.iter().zip(&self.unsound).chain(BAD_PARTS.iter().zip(&self.bad_parts)) {
             writeln!(out, "  {kind:<22} {count:>9}")?;
         }
-        writeln!(out, "usable\n    yes {:>9}\n     no {:>9}", self.usable[1], self.usable[0])
+        writeln!(out, "usable\n    yes {:>9}\n     no {:>9}", self.usable[1], self.usable[0])?;
+        writeln!(out, "keys in sound rows that may vend, and that may not")?;
+        for ((_, owner), [open, closed]) in OWNERS.iter().zip(&self.vending) {
+            writeln!(out, "  under {owner:<7} {closed:>9} {open:>9}")?;
+        }
+        Ok(())
     }
 }
 
@@ -309,7 +394,9 @@ mod tests {
             told_names: [1; GROUP_NAMES],
             reloads: [[1; 2]; 2],
             long_names: [1; 3],
+            met: [[1; MET.len()]; 10],
             usable: [1; 2],
+            vending: [[1; 2]; OWNERS.len()],
             row_counts: [[1; MOST_REGISTERS + 2]; MOST_SLOTS + 2],
             buffers: [1; LONGEST_BUFFER + 1],
             unsound: [1; UNSOUND.len()],
@@ -340,11 +427,16 @@ mod tests {
         assert_eq!(told(&|counts| counts.reloads[1][0] = 0), "never came up: reload with no SGN over one");
         let long = "never came up: load refused for an SGN of 25 bytes";
         assert_eq!(told(&|counts| counts.long_names[0] = 0), long);
+        assert_eq!(told(&|counts| counts.met[4][3] = 0), "never came up: SM?KF over an open key of another slot");
+        assert_eq!(told(&|counts| counts.met[0][1] = 0), "never came up: GL?RS over an open key");
         assert_eq!(told(&|counts| counts.usable[1] = 0), "never came up: usable yes");
+        assert_eq!(told(&|counts| counts.vending[0][1] = 0), "never came up: key that may vend under PENDING");
+        assert_eq!(told(&|counts| counts.vending[1][0] = 0), "never came up: key that may not vend under LOADING");
         assert_eq!(told(&|counts| counts.row_counts[9][33] = 0), "never came up: 9 slots and 33 registers");
         assert_eq!(told(&|counts| counts.buffers[1023] = 0), "never came up: buffer of 1023 bytes");
         assert_eq!(told(&|counts| counts.unsound[12] = 0), "never came up: fault alone: SGN out of form");
         assert_eq!(told(&|counts| counts.unsound[16] = 0), "never came up: fault alone: key twice");
+        assert_eq!(told(&|counts| counts.unsound[19] = 0), "never came up: fault alone: open under IDLE");
         assert_eq!(told(&|counts| counts.bad_parts[8] = 0), "never came up: fault alone: passed");
         let row = "never came up: fault alone in row 40 of slots and registers";
         assert_eq!(told(&|counts| counts.unsound_rows[39] = 0), row);

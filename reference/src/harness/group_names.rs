@@ -6,7 +6,7 @@ use super::places::judge;
 use super::scenes::{self, load, CARD, STORED};
 use super::tables::Tables;
 use super::{requests, Bench};
-use crate::rows::{IDLE, LOADING, MOST_REGISTERS, MOST_SLOTS};
+use crate::rows::{LOADING, MOST_REGISTERS, MOST_SLOTS, OPEN};
 use crate::{Command, RegisterRow};
 
 /// The most bytes that SGN may have.
@@ -76,7 +76,7 @@ fn refused(bench: &mut Bench, text: &str) -> Result<(), String> {
 fn keeps(bench: &mut Bench, tables: &mut Tables, request: &[u8], register: usize, due: &str) -> Result<(), String> {
     ask(bench, 0, tables, request)?;
     told(bench, b"SM!KL", &format!("00N{register}~P{due}~"))?;
-    let mut row = RegisterRow::FREE;
+    let mut row = RegisterRow { mark: OPEN, ..RegisterRow::FREE };
     row.card[..due.len()].copy_from_slice(due.as_bytes());
     if tables.registers[register - 1] != row {
         return Err(format!("{due} does not stand in register {register}"));
@@ -377,6 +377,6 @@ fn longest(bench: &mut Bench) -> Result<(), String> {
     ask(bench, 0, &mut tables, &requests::of_slot(Command::KQ, &name))?;
     ask(bench, 20, &mut tables, &request)?;
     judge(bench, true, &tables)?;
-    tables.slots[MOST_SLOTS - 1].state = IDLE;
+    ask(bench, 0, &mut tables, &requests::of_slot(Command::KF, &name))?;
     bench.expect_usable(&tables, &|register| (1..=MOST_REGISTERS).contains(&register))
 }

@@ -1,11 +1,11 @@
 //! Which faults unsound rows and bad supplements have, so that a run can tell that each kind came up alone.
 
 use crate::records::Identity;
-use crate::rows::{self, RegisterRow, SlotRow, FREE, IDLE, LOADING, PENDING};
+use crate::rows::{self, RegisterRow, SlotRow, CLOSED, FREE, IDLE, LOADING, OPEN, PENDING};
 use crate::{cards, text, Supplement};
 
 /// Question 3's kinds.
-pub const UNSOUND: [&str; 17] = [
+pub const UNSOUND: [&str; 20] = [
     "state of none",
     "free slot not zero",
     "name out of form",
@@ -23,6 +23,9 @@ pub const UNSOUND: [&str; 17] = [
     "card not as stored",
     "KSL of no slot",
     "key twice",
+    "mark of none",
+    "mark in a free register",
+    "open under IDLE",
 ];
 
 /// Question 4's kinds.
@@ -51,9 +54,11 @@ pub fn of_rows(slots: &[SlotRow], registers: &[RegisterRow]) -> Vec<Fault> {
         }
     }
     let mut keys = Vec::new();
-    for (place, register) in registers.iter().enumerate().filter(|(_, register)| !register.is_free()) {
+    for (place, register) in registers.iter().enumerate() {
         let row = rows::MOST_SLOTS + place;
+        faults.extend(of_mark(slots, register).map(|kind| (row, kind)));
         match cards::stored(&register.card) {
+            None if register.is_free() => {}
             None => faults.push((row, of_register(register))),
             Some(card) => {
                 if rows::slot_named(slots, card.slot()).is_none() {
@@ -89,6 +94,17 @@ fn of_slot(slot: &SlotRow) -> Vec<&'static str> {
     .into_iter()
     .filter_map(|(wrong, kind)| wrong.then_some(kind))
     .collect()
+}
+
+/// The fault of a mark. The slot of a key that has none, or that is not as stored, is another fault.
+fn of_mark(slots: &[SlotRow], register: &RegisterRow) -> Option<&'static str> {
+    let owner = cards::stored(&register.card).and_then(|card| rows::slot_named(slots, card.slot()));
+    match register.mark {
+        CLOSED => None,
+        _ if register.is_free() => Some("mark in a free register"),
+        OPEN => owner.filter(|&slot| slots[slot].state == IDLE).map(|_| "open under IDLE"),
+        _ => Some("mark of none"),
+    }
 }
 
 /// The fault of a register that is not free, and whose card is not as stored.

@@ -9,6 +9,7 @@ pub mod generator;
 pub mod group_names;
 pub mod history;
 pub mod identities;
+pub mod key_marks;
 pub mod kinds;
 pub mod lists;
 pub mod parts;
@@ -247,14 +248,14 @@ impl<'a> Bench<'a> {
 
         self.length = answer.length;
         // No refusal changes a row, and SM?GA, SM?GL and SM?KQ only read them.
-        let keeps = answer.outcome > 0 || demand3::word(request, self.answer()) == Word::Read;
-        if keeps && *tables != before {
+        let word = demand3::word(request, self.answer());
+        if (answer.outcome > 0 || word == Word::Read) && *tables != before {
             return Err(format!(
                 "both engines changed rows where none may change\n{}",
                 describe(&before, supplement, request, buffer, &filling)
             ));
         }
-        self.counts.count(&before, supplement, request, buffer, answer.outcome);
+        self.counts.count(&before, supplement, request, buffer, answer.outcome, &word);
         Ok(answer.outcome)
     }
 
@@ -300,7 +301,7 @@ impl<'a> Bench<'a> {
                 show_rows(tables)
             ));
         }
-        self.counts.usable[usize::from(got)] += 1;
+        self.counts.count_usable(tables, register, got);
         Ok(got)
     }
 
@@ -358,8 +359,8 @@ fn show_rows(tables: &Tables) -> String {
         let bytes = [&[row.state], &row.kmcid[..], &row.fingerprint, &row.tvp].concat();
         text += &format!("  slot {} {}\n", place + 1, hex(&bytes));
     }
-    for (place, row) in tables.registers.iter().enumerate().filter(|(_, row)| !row.is_free()) {
-        text += &format!("  register {} {}\n", place + 1, hex(&row.card));
+    for (place, row) in tables.registers.iter().enumerate().filter(|(_, row)| !row.is_zero()) {
+        text += &format!("  register {} {} {}\n", place + 1, row.mark, hex(&row.card));
     }
     text
 }
@@ -396,21 +397,22 @@ pub fn try_fuzz(engine: &mut dyn Engine, calls: u64, seed: u64) -> Result<Counts
 /// The shorter parts come first, so that most faults are found at once.
 fn fixed_parts(bench: &mut Bench) -> Result<(), String> {
     type Part = fn(&mut Bench) -> Result<(), String>;
-    let parts: [(&'static str, Part); 15] = [
+    let parts: [(&'static str, Part); 16] = [
         ("named cases", parts::named_cases),
         ("first questions", parts::first_questions),
         ("lists", lists::lists),
         ("group names", group_names::group_names),
         ("identities", identities::identities),
         ("card values", card_values::card_values),
-        ("places", places::places),
-        ("unsound places", places::unsound_places),
-        ("dates", dates::dates),
         ("supplements", parts::supplements),
         ("rows", parts::rows),
+        ("buffers", parts::buffers),
+        ("places", places::places),
+        ("dates", dates::dates),
         ("reading", parts::reading),
         ("row counts", parts::row_counts),
-        ("buffers", parts::buffers),
+        ("marks", key_marks::key_marks),
+        ("unsound places", places::unsound_places),
         ("bytes of rows", places::each_byte),
     ];
     for (name, part) in parts {

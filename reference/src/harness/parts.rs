@@ -4,7 +4,7 @@ use super::scenes::{self, begin, good, kmc, load, CARD, CLOCK, FINGERPRINT, STOR
 use super::tables::Tables;
 use super::world::{own_identity, World};
 use super::{requests, Bench, LONGEST_BUFFER};
-use crate::rows::{IDLE, LOADING, PENDING};
+use crate::rows::{IDLE, LOADING, OPEN, PENDING};
 use crate::{crc, records, Command, RegisterRow, SlotRow};
 
 /// Cases whose outcome the paper says in words; each refusal is among them.
@@ -310,9 +310,9 @@ pub fn reading(bench: &mut Bench) -> Result<(), String> {
     let mut tables = Tables::empty(2, 3);
     put_slot(&mut tables, 0, IDLE, b"k");
     put_slot(&mut tables, 1, LOADING, &long_name(0));
-    tables.put_card(0, longest.as_bytes());
+    tables.put_open_card(0, longest.as_bytes());
     tables.put_card(1, shortest.as_bytes());
-    tables.put_card(2, without.as_bytes());
+    tables.put_open_card(2, without.as_bytes());
     for (register, card) in [(1, longest), (2, shortest), (3, without)] {
         bench.expect(0, &mut tables, &supplement, &requests::of_register(Command::GA, register), 1024)?;
         if bench.answer() != requests::frame(b"SM!GA", format!("00P{card}~").as_bytes()) {
@@ -329,17 +329,17 @@ fn two_slots(bench: &mut Bench, state: u8, other: u8, keys: usize) -> Result<(),
     let mut tables = Tables::empty(2, 32);
     put_slot(&mut tables, 0, other, b"k");
     put_slot(&mut tables, 1, state, &name);
-    // `keys` of the places, spread.
+    // `keys` of the places, spread; two of three are open where their slot lets them.
     let first = |place: usize| place * 5 % 32 < keys;
+    let is_open = |place: usize| !place.is_multiple_of(3) && IDLE != if first(place) { state } else { other };
     for place in 0..32 {
         tables.put_card(place, card_of(place, if first(place) { &name } else { b"k" }).as_bytes());
+        tables.registers[place].mark = u8::from(is_open(place));
     }
     for slot in [&name[..], b"k"] {
         bench.expect(0, &mut tables, &supplement, &requests::of_slot(Command::KQ, slot), 1024)?;
     }
-    bench.expect_usable(&tables, &|register| {
-        (1..=32).contains(&register) && IDLE == if first(register - 1) { state } else { other }
-    })?;
+    bench.expect_usable(&tables, &|register| (1..=32).contains(&register) && !is_open(register - 1))?;
     bench.expect(0, &mut tables, &supplement, &requests::of_slot(Command::KX, b"k"), 1024)?;
     bench.expect(0, &mut tables, &supplement, &requests::of_slot(Command::KQ, &name), 1024)?;
     for register in 0..=33 {
@@ -361,7 +361,8 @@ pub(super) fn card_of(place: usize, slot: &[u8]) -> String {
         .replace("KSLKMC1", &format!("KSL{}", String::from_utf8_lossy(slot)))
 }
 
-/// Sound rows in every place that the counts cover (as far as 9 and 33 reach), the slots in one state.
+/// Sound rows in every place that the counts cover (as far as 9 and 33 reach), the slots in one state. Where it lets
+/// keys be open, every second key of a slot is, from the first on.
 pub(super) fn full_tables(slot_count: usize, register_count: usize, state: u8) -> Tables {
     let mut tables = Tables::empty(slot_count, register_count);
     for place in 0..slot_count {
@@ -370,6 +371,9 @@ pub(super) fn full_tables(slot_count: usize, register_count: usize, state: u8) -
     for place in 0..register_count {
         let slot = format!("KMC{}", place % slot_count.max(1) + 1);
         tables.put_card(place, card_of(place, slot.as_bytes()).as_bytes());
+        if state != IDLE && (place / slot_count.max(1)).is_multiple_of(2) {
+            tables.registers[place].mark = OPEN;
+        }
     }
     tables
 }
@@ -398,13 +402,12 @@ pub fn row_counts(bench: &mut Bench) -> Result<(), String> {
                 full_tables(slot_count, register_count, LOADING),
                 full_tables(slot_count, register_count, IDLE),
             ] {
-                let idle = in_range && tables.slots[0].state == IDLE;
                 for beyond in [0, 0xFF] {
                     for row in &mut tables.slots[slot_count..] {
                         row.state = beyond;
                     }
                     for row in &mut tables.registers[register_count..] {
-                        row.card = [beyond; 256];
+                        *row = RegisterRow { card: [beyond; 256], mark: beyond };
                     }
                     for request in &asked {
                         let came = bench.call(&mut tables.clone(), &supplement, request, 1024)?;
@@ -412,7 +415,7 @@ pub fn row_counts(bench: &mut Bench) -> Result<(), String> {
                             return Err(format!("{slot_count} slots and {register_count} registers gave {came}"));
                         }
                     }
-                    bench.expect_usable(&tables, &|register| idle && (1..=register_count).contains(&register))?;
+                    bench.expect_usable(&tables, &|register| in_range && tables.is_closed(register))?;
                 }
             }
         }
@@ -610,6 +613,9 @@ pub fn rows(bench: &mut Bench) -> Result<(), String> {
     cases.push((3, tables));
     // The slot of a key is free.
     cases.push((3, slot(&|slots| slots[0] = SlotRow::FREE)));
+    // The slot of an open key is IDLE, or PENDING.
+    cases.push((3, slot(&|slots| slots[0].state = IDLE)));
+    cases.push((0, slot(&|slots| (slots[0].state, slots[0].tvp) = (PENDING, *CLOCK))));
 
     for (outcome, tables) in &cases {
         for register in 1..=3 {
@@ -651,9 +657,10 @@ pub fn rows(bench: &mut Bench) -> Result<(), String> {
             }
         }
         for place in 0..3 {
-            for byte in 0..256 {
+            for byte in 0..257 {
                 let mut tables = scenes::tables();
-                tables.registers[place].card[byte] = value;
+                let row = &mut tables.registers[place];
+                *row.card.get_mut(byte).unwrap_or(&mut row.mark) = value;
                 bench.usable(&tables, 2)?;
                 bench.call(&mut tables, &supplement, &request, 1024)?;
             }
@@ -799,7 +806,7 @@ fn spoil_rows(world: &mut World, tables: &mut Tables) {
     let slot = generator.below(tables.slot_count.clamp(1, 8));
     let register = generator.below(tables.register_count.clamp(1, 32));
     let byte = generator.byte();
-    match generator.below(11) {
+    match generator.below(13) {
         0 => tables.slot_count = *generator.pick(&[0, 9]),
         1 => tables.register_count = *generator.pick(&[0, 33]),
         2 => tables.slots[slot].state = generator.below(6) as u8,
@@ -809,6 +816,7 @@ fn spoil_rows(world: &mut World, tables: &mut Tables) {
         6 => tables.registers[register].card[generator.below(256)] = byte,
         7 => tables.slots[generator.below(8)] = tables.slots[slot],
         8 | 9 => world.name_group(&mut tables.registers[register]),
+        10 | 11 => world.mark(&mut tables.registers[register]),
         _ => tables.registers[generator.below(32)] = tables.registers[register],
     }
 }

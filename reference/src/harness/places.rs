@@ -59,10 +59,7 @@ fn at_slot(bench: &mut Bench, state: u8, place: usize) -> Result<(), String> {
         let mut after = tables.clone();
         ask(bench, outcome, &mut after, &request)?;
         ask(bench, 0, &mut after, &requests::bare(Command::GL))?;
-        bench.expect_usable(&after, &|register| {
-            let keeps = (1..=REGISTERS).contains(&register) && !after.registers[register - 1].is_free();
-            keeps && after.slots[(register - 1) % SLOTS].state == IDLE
-        })?;
+        bench.expect_usable(&after, &|register| after.is_closed(register))?;
     }
     Ok(())
 }
@@ -88,15 +85,20 @@ fn free_slot(bench: &mut Bench, place: usize) -> Result<(), String> {
     Ok(())
 }
 
-/// One slot in a state, the others in another: GL?RS, and which keys may vend.
+/// One slot in a state, the others in another, with half of their keys open where they may be: GL?RS, and which keys
+/// may vend.
 fn lone_state(bench: &mut Bench, place: usize) -> Result<(), String> {
     for others in STATES {
         for state in STATES {
-            let mut tables = full_tables(SLOTS, REGISTERS, others);
-            tables.slots[place] = full_tables(SLOTS, 1, state).slots[place];
+            let (mut tables, own) = (full_tables(SLOTS, REGISTERS, others), full_tables(SLOTS, REGISTERS, state));
+            tables.slots[place] = own.slots[place];
+            for register in (place..REGISTERS).step_by(SLOTS) {
+                tables.registers[register] = own.registers[register];
+            }
             bench.expect_usable(&tables, &|register| {
                 let here = register.wrapping_sub(1) % SLOTS == place;
-                (1..=REGISTERS).contains(&register) && IDLE == if here { state } else { others }
+                let second = register.wrapping_sub(1) / SLOTS % 2 == 1;
+                (1..=REGISTERS).contains(&register) && (second || IDLE == if here { state } else { others })
             })?;
             ask(bench, 0, &mut tables, &requests::bare(Command::RS))?;
             bench.expect_usable(&tables, &|register| (1..=REGISTERS).contains(&register))?;
@@ -303,9 +305,10 @@ pub fn each_byte(bench: &mut Bench) -> Result<(), String> {
                 bench.call(&mut tables, &supplement, &request, 1024)?;
             }
         }
-        for byte in 0..REGISTERS * 256 {
+        for byte in 0..REGISTERS * 257 {
             let mut tables = full.clone();
-            tables.registers[byte / 256].card[byte % 256] = value;
+            let row = &mut tables.registers[byte / 257];
+            *row.card.get_mut(byte % 257).unwrap_or(&mut row.mark) = value;
             bench.call(&mut tables, &supplement, &request, 1024)?;
         }
     }

@@ -110,7 +110,8 @@ impl Maker {
         }
     }
 
-    /// A call over a row with one byte changed, or a card with another SGN; then the row is as it was.
+    /// A call over a row with one byte changed, a card with another SGN or a key with another mark; then the row is as it
+    /// was.
     fn spoiled_row(&mut self) {
         let tables = self.console.tables.clone();
         let generator = &mut self.world.generator;
@@ -125,10 +126,10 @@ impl Maker {
             41..=56 => row.fingerprint[place - 41] = byte,
             _ => row.tvp[place - 57] = byte,
         }
-        if generator.chance(70) {
-            key.card[generator.below(256)] = byte;
-        } else {
-            self.world.name_group(&mut key);
+        match generator.below(10) {
+            0..=4 => key.card[generator.below(256)] = byte,
+            5..=6 => self.world.name_group(&mut key),
+            _ => self.world.mark(&mut key),
         }
         let lines = if self.world.generator.chance(50) {
             [slot_line(slot + 1, &row), slot_line(slot + 1, &tables.slots[slot])]
@@ -199,7 +200,7 @@ impl Maker {
                 let row = generator.below(10);
                 format!("slot {row} {number} {} {} {}", text(name), text(fingerprint), text(tvp))
             }
-            13 => format!("register {} {}", generator.below(35), text(generator.hex(digits))),
+            13 => format!("register {} {number} {}", generator.below(35), text(generator.hex(digits))),
             14 => generator.pick(&["passed", "passed maybe", "Rows", "rows 1", "show ", "tables 8", "#"]).to_string(),
             _ => format!("usable {}", generator.pick(&[2_147_483_647u64, 2_147_483_648, 4_294_967_297, u64::MAX])),
         };

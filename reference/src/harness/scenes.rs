@@ -26,13 +26,13 @@ pub fn supplement() -> Supplement {
     requests::supplement(CLOCK, &own_identity(), b"VKLOAD.REQ.1|any|67DF", TAG, b"92E101")
 }
 
-/// KMC1 LOADING, KMC2 PENDING, KMC3 IDLE, a free slot; a key each of KMC1 and KMC3, a free register.
+/// KMC1 LOADING, KMC2 PENDING, KMC3 IDLE, a free slot; an open key of KMC1, a closed one of KMC3, a free register.
 pub fn tables() -> Tables {
     let mut tables = Tables::empty(4, 3);
     tables.put_slot(0, LOADING, b"KMC1", FINGERPRINT, b"");
     tables.put_slot(1, PENDING, b"KMC2", FINGERPRINT, CLOCK);
     tables.put_slot(2, IDLE, b"KMC3", FINGERPRINT, b"");
-    tables.put_card(0, STORED.as_bytes());
+    tables.put_open_card(0, STORED.as_bytes());
     tables.put_card(1, STORED.replace("KSLKMC1", "KSLKMC3").replace("KRN1", "KRN2").as_bytes());
     tables
 }

@@ -1,7 +1,7 @@
 //! The rows of a call: places for one row more than the ranges allow, so that
 //! every count from 0 to 9 and 0 to 33 can be tried.
 
-use crate::rows::{self, RegisterRow, SlotRow};
+use crate::rows::{self, RegisterRow, SlotRow, CLOSED, OPEN};
 
 #[derive(Clone, PartialEq, Eq)]
 pub struct Tables {
@@ -40,10 +40,22 @@ impl Tables {
         row.tvp[..tvp.len()].copy_from_slice(tvp);
     }
 
-    /// Fills register row `place` with a card text.
+    /// Fills register row `place` with a card text; the key is closed.
     pub fn put_card(&mut self, place: usize, card: &[u8]) {
         self.registers[place] = RegisterRow::FREE;
         self.registers[place].card[..card.len()].copy_from_slice(card);
+    }
+
+    /// The same, open.
+    pub fn put_open_card(&mut self, place: usize, card: &[u8]) {
+        self.put_card(place, card);
+        self.registers[place].mark = OPEN;
+    }
+
+    /// Whether register `number`, counted from 1, is filled and marked closed: of sound rows just these keys may vend.
+    pub fn is_closed(&self, number: usize) -> bool {
+        let row = number.checked_sub(1).and_then(|place| self.registers().get(place));
+        row.is_some_and(|row| !row.is_free() && row.mark == CLOSED)
     }
 
     /// The names of the slots in a state.

@@ -5,7 +5,7 @@ use super::edits;
 use super::generator::Generator;
 use super::requests;
 use super::tables::Tables;
-use crate::rows::{self, FREE, IDLE, LOADING, PENDING};
+use crate::rows::{self, CLOSED, FREE, IDLE, LOADING, OPEN, PENDING};
 use crate::{cards, Command, RegisterRow, Supplement};
 
 /// Most names share a beginning, also all of a shorter name, and differ after it in a byte of each kind, so that a list
@@ -71,7 +71,7 @@ impl World {
         Tables::empty(slots, registers)
     }
 
-    /// Sound rows, also those that no history reaches: keys in every state, VND above 0.
+    /// Sound rows, also those that no history reaches: keys in every state, open wherever they may be, VND above 0.
     pub fn filled(&mut self) -> Tables {
         let (slots, registers) = (self.generator.between(1, 8), self.generator.between(1, 32));
         let mut tables = self.empty(slots, registers);
@@ -96,6 +96,11 @@ impl World {
             let start = cards::written(&space).strip_suffix(b"0;").expect("VND is 0");
             let vended = *self.generator.pick(&[&b"0;"[..], b"1;", b"398674;", b"999999999;"]);
             tables.put_card(place, &[start, vended].concat());
+            let may_be_open =
+                rows::slot_named(tables.slots(), slot).is_some_and(|slot| tables.slots[slot].state != IDLE);
+            if may_be_open && self.generator.chance(50) {
+                tables.registers[place].mark = OPEN;
+            }
         }
         tables
     }
@@ -126,6 +131,18 @@ impl World {
             6 => supplement.check[generator.below(6)] = byte,
             _ => supplement.passed = byte,
         }
+    }
+
+    /// Gives a register row another mark: mostly open or closed, else one near them or any. Whether the row is sound then
+    /// is left to question 3.
+    pub fn mark(&mut self, row: &mut RegisterRow) {
+        let any = self.generator.byte();
+        row.mark = match self.generator.below(10) {
+            0..=4 => OPEN,
+            5 => CLOSED,
+            6..=7 => *self.generator.pick(&[2, 3, 128, 255]),
+            _ => any,
+        };
     }
 
     /// Gives a stored card an SGN of 0 to 26 bytes in its place, or of 0 to 24 beside it or anywhere. Whether the card
