@@ -1,7 +1,7 @@
 /* Diminurel: the key-management core of a prepayment vending module, STS 600-8-6 edition 1.6.
  *
  * Target: x86-64 Linux (System V ABI, baseline instructions). C99 or later, C++11 or later.
- * Stack:  about 29 KiB a call. Code: about 45 KiB, and 2.3 KiB of constants. docs/PERFORMANCE.md has the figures.
+ * Stack:  about 31 KiB a call. Code: about 49 KiB, and 2.2 KiB of constants. docs/PERFORMANCE.md has the figures.
  * Linked: memcpy and memset, nothing else. No heap, no globals, no input or output; both functions are reentrant.
  *
  * They answer every input: rows, supplement, request and buffer may hold any bytes, and slices may have any length, 0
