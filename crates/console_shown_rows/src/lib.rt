@@ -1,4 +1,6 @@
 // One row for people, as the line `show` of the console prints it (docs/CONSOLE.md), and how many rows there are.
+use row_types::CLOSED;
+use row_types::OPEN;
 use row_types::RegisterRow;
 use row_types::SlotRow;
 use row_types::Tables;
@@ -56,10 +58,10 @@ fn put_mark(dst: &mut [u8], at: usize, mark: u8) -> usize
     ensures { λ r. ⌜ Writes dst at (markShown mark ++ text " ") r ⌝ }
     ensures short { λ r. ⌜ r ≤ at + 16 ⌝ }
 {
-    if mark == 0 {
+    if mark == CLOSED {
         return console_prints::put_word(dst, at, b"closed");
     }
-    if mark == 1 {
+    if mark == OPEN {
         return console_prints::put_word(dst, at, b"open");
     }
     let number = console_prints::put_word(dst, at, b"mark");

@@ -3,6 +3,8 @@
 use decide_parts::Decided;
 use decide_parts::Parts;
 use engine::Decision;
+use row_types::CLOSED;
+use row_types::OPEN;
 use row_types::SlotRow;
 use row_types::SlotState;
 use row_types::Supplement;
@@ -109,7 +111,7 @@ pub fn change_registers(
         Decision::Reset => register_tables::close_all(marks, register_count),
         Decision::Load(k) => {
             cards[k] = loaded_card(decided.parts, supplement, payload);
-            after[k] = 1;
+            after[k] = OPEN;
             after
         }
         Decision::Close(k) => register_tables::close_owned(marks, owners, register_count, k + 1),
@@ -119,7 +121,7 @@ pub fn change_registers(
         }
         Decision::DeleteKey(k) => {
             cards[k] = [0; 256];
-            after[k] = 0;
+            after[k] = CLOSED;
             after
         }
         Decision::Refuse(_)

@@ -1,4 +1,5 @@
 // Which key may vend (document 02, N3: "a key is usable exactly when it is marked closed, whatever the slot's state").
+use row_types::CLOSED;
 use row_types::Counts;
 use row_types::SlotRow;
 use row_types::Tables;
@@ -23,11 +24,10 @@ fn is_closed(marks: [u8; 32], register: usize) -> bool
     requires { ⌜ (1 ≤ register) × (register ≤ 32) ⌝ }
     ensures { λ b. ⌜ b ≡ eqb (getD marks (register - 1) 0) closedMark ⌝ }
 {
-    marks[register - 1] == 0
+    marks[register - 1] == CLOSED
 }
 
-// Whether the key in a register, counted from 1, may vend, over slot rows, lent cards and
-// marks.
+// Whether the key in a register, counted from 1, may vend, over slot rows, lent cards and marks.
 pub fn is_usable(
     slots: [SlotRow; 8],
     counts: Counts,

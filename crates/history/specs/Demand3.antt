@@ -49,7 +49,8 @@ pub record Live (h : List Item) (g r : List ℕ) (n : ℕ) (s c : List ℕ) : Ty
 abbrev pub InSession : List ℕ → List Item → Type 0
 InSession s h = Since (Opens s) (Ends s) h
 
--- in the rows a key of g and r stands in register n, under slot s, and the bytes of its row are c, whatever it carries
+-- in the rows a key of g and r stands in register n, under slot s, and the bytes of its card's space are c, whatever it
+-- carries
 pub record StandsIn (t : Tables) (g r : List ℕ) (n : ℕ) (s c : List ℕ) : Type 0 where
   pub carries : Carried
   pub is : registerRow t n ≡ key g r s c carries

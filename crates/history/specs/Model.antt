@@ -17,7 +17,7 @@ pub data Slot : Type 0 where
 pub record Carried : Type 0 where
   pub isOpen : Bool
 
--- a register row: free, or a card's SGC, KRN and KSL and all bytes of the row, and what the key carries
+-- a register row: free, or a card's SGC, KRN and KSL, all bytes of the card's space, and what the key carries
 pub data Register : Type 0 where
   vacant : Register
   key : List ℕ → List ℕ → List ℕ → List ℕ → Carried → Register

@@ -1,5 +1,7 @@
 // Question 3 of the marks (document 02, N3): closed, or open beside a key whose slot is PENDING or LOADING; by the
 // numbers of the registers' owners and of the slots' states, which question 3 found before.
+use row_types::CLOSED;
+use row_types::OPEN;
 ghost use mathlib.Core.Path.{_≡_};
 ghost use Prim.Native.Nat.{_≤_};
 ghost use lib.ListN.{take};
@@ -10,15 +12,16 @@ fn is_mark_right(states: [u8; 8], owner: usize, mark: u8) -> bool
     requires { ⌜ owner ≤ 8 ⌝ }
     ensures { λ b. ⌜ b ≡ isMarkRight states owner mark ⌝ }
 {
-    if mark == 0 {
+    if mark == CLOSED {
         return true;
     }
-    if mark != 1 {
+    if mark != OPEN {
         return false;
     }
     if owner == 0 {
         return false;
     }
+    // PENDING is 1, LOADING 2
     let state = states[owner - 1];
     if state == 1 {
         return true;

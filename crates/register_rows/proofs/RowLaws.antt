@@ -21,11 +21,6 @@ unfolding areAll
 first-other [] o = absurd (o refl)
 first-other (b ∷ bs) o = sym (rw (ne-eqb b 0 o))
 
--- is_vacant
-pub all-tested : (r : RegisterRow) (b : Bool) → b ≡ areAll Zero (r .card) → b ≡ isVacant r
-unfolding isVacant
-all-tested r b p = p
-
 -- is_zero_register
 module _ (r : RegisterRow) where
   pub marked : (r .mark ≡ 0 → ⊥) → false ≡ isZeroRegister r

@@ -1,10 +1,12 @@
-// One register row (document 01, "Slots and registers"): whether it is free, whether all of it is zero, and a free row.
+// One register row (document 01, "Slots and registers"): whether its card's space is clear, whether all of it is zero,
+// and a free row.
+use row_types::CLOSED;
 use row_types::RegisterRow;
 use text_classes::Class;
 ghost use mathlib.Core.Path.{_≡_};
 ghost use Rattle.text_classes.specs.Classes.{areAll};
 ghost use Rattle.text_classes.specs.declared.Class.the-variants.{Zero};
-ghost use Rattle.row_types.specs.Registers.{isVacant, freeRegister};
+ghost use Rattle.row_types.specs.Registers.{freeRegister};
 ghost use Rattle.register_rows.specs.ZeroRegisters.{isZeroRegister};
 
 // Whether every byte of a card's space is zero. A card starts with a letter, so the first byte mostly tells.
@@ -15,13 +17,6 @@ pub fn is_clear(card: &[u8; 256]) -> bool
         return false;
     }
     text_classes::are_all_long(Class::Zero, card)
-}
-
-// Whether the row is free.
-pub fn is_vacant(row: RegisterRow) -> bool
-    ensures { λ a. ⌜ a ≡ isVacant row ⌝ }
-{
-    is_clear(&row.card)
 }
 
 // Whether every byte of the row is zero, its mark too.
@@ -40,6 +35,6 @@ pub fn free_register() -> RegisterRow
 {
     RegisterRow {
         card: [0; 256],
-        mark: 0,
+        mark: CLOSED,
     }
 }

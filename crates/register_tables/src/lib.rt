@@ -1,5 +1,6 @@
 // The registers of the table, by their cards and marks (document 01, "Slots and registers"; document 02, N3): cards and
 // marks of rows, the rows with them, and what SM?KX, SM?KF and GL?RS leave.
+use row_types::CLOSED;
 use row_types::RegisterRow;
 ghost use mathlib.Core.Path.{_≡_};
 ghost use mathlib.Core.Bool.{cond};
@@ -48,7 +49,7 @@ pub fn rows_of(cards: [[u8; 256]; 32], marks: [u8; 32]) -> [RegisterRow; 32]
 {
     let free = RegisterRow {
         card: [0; 256],
-        mark: 0,
+        mark: CLOSED,
     };
     let mut registers = [free; 32];
     let mut i = 0;
@@ -91,7 +92,7 @@ fn mark_left(mark: u8, owner: usize, slot: usize) -> u8
     if owner != slot {
         return mark;
     }
-    0
+    CLOSED
 }
 
 // Closes each of the first register_count registers whose owner is the slot.
@@ -121,7 +122,7 @@ pub fn close_all(marks: [u8; 32], register_count: usize) -> [u8; 32]
     let mut after = marks;
     let mut at = 0;
     while at < register_count {
-        after[at] = 0;
+        after[at] = CLOSED;
         at += 1;
     }
     after
