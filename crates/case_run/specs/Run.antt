@@ -169,7 +169,8 @@ abbrev pub centreB : List Stage
 centreB =
     stage startB (kc b ⇒ done) (lent (slotA Pending clock) (slotB Pending clock) closedA)
     ∷ stage responseB (kr b ⇒ done) (lent (slotA Pending clock) (slotB Loading []) closedA)
-    ∷ stage loadB (kl b group revision ⇒ loaded 1 (inRow cardB)) (lent (slotA Pending clock) (slotB Loading []) keyB)
+    ∷ stage loadB (kl b group revision ⇒ loaded 1 (inRow cardB))
+    (lent (slotA Pending clock) (slotB Loading []) keyB)
     ∷ stage finishA (kf a ⇒ done) (lent (slotA Idle []) (slotB Loading []) keyB)
     ∷ []
 

@@ -63,7 +63,8 @@ pub fn find(
     requires { ⌜ («slot_count» ≤ 8) × (length (now cards) ≤ 32) ⌝ }
     ensures { λ f. ⌜ f .sound ≡ areSound (take «slot_count» slots) (markedRows (now (cards .entry)) marks) ⌝ }
     ensures keys { λ f. ⌜ (f .sound ≡ true
-        → take (length (now (cards .entry))) (f .keys) ≡ map keyNumber (markedRows (now (cards .entry)) marks)) ⌝ }
+        → take (length (now (cards .entry))) (f .keys)
+        ≡ map keyNumber (markedRows (now (cards .entry)) marks)) ⌝ }
     ensures owners { λ f. ⌜ (f .sound ≡ true
         → take (length (now (cards .entry))) (f .owners)
         ≡ map (ownerNumber (map keptName (take «slot_count» slots))) (markedRows (now (cards .entry)) marks)) ⌝ }
