@@ -1,6 +1,6 @@
 /* Diminurel: the key-management core of a prepayment vending module, STS 600-8-6 edition 1.6.
  *
- * Target: x86-64 Linux (System V ABI, baseline instructions). C99 or later, C++11 or later.
+ * Target: x86-64 Linux (System V ABI, baseline instructions, none that divides). C99 or later, C++11 or later.
  * Stack:  about 31 KiB a call. Code: about 49 KiB, and 2.2 KiB of constants. docs/PERFORMANCE.md has the figures.
  * Linked: memcpy and memset, nothing else. No heap, no globals, no input or output; both functions are reentrant.
  *
@@ -30,8 +30,8 @@ extern "C" {
 /* The version of this header and of the library that goes with it (CHANGELOG.md). */
 #define DIMINUREL_VERSION_MAJOR 0
 #define DIMINUREL_VERSION_MINOR 4
-#define DIMINUREL_VERSION_PATCH 0
-#define DIMINUREL_VERSION "0.4.0"
+#define DIMINUREL_VERSION_PATCH 1
+#define DIMINUREL_VERSION "0.4.1"
 
 /* Rows of each kind: 1 to these, else refusal 1. */
 #define DIMINUREL_SLOTS_MAX 8

@@ -5,7 +5,7 @@
 # step passed.
 set -u -o pipefail
 top=$(cd "$(dirname "$0")/.." && pwd)
-comparisons=(callers.sh console.sh engine.sh faults.sh library.sh)
+comparisons=(callers.sh console.sh divides.sh engine.sh faults.sh library.sh numbers.sh)
 
 # The checker copies what a crate depends on into TMPDIR, hundreds of megabytes a check: memory is quicker, where it
 # can be written, runs programs (rt runs them there as nobody) and has 2 GB free.
@@ -63,11 +63,11 @@ same_kit() { [ "$1" = "$(cat "$2")" ] || { echo "test: the kit is '$1', and $2 p
 look() { same_kit "$(rt version)" "$top/tools/kit" && bash "$top/tools/documents.sh"; }
 prove() { (cd "$top" && rt ci); }
 edits() { bash "$top/tools/edits.sh"; }
-archive() { (cd "$top" && rt staticlib diminurel) | grep -E '^rt: '; }
-compare() { archive && compare_in "$top/tools/compare"; }
+archive() { (cd "$top" && rt staticlib "$1") | grep -E '^rt: '; }
+compare() { archive diminurel && archive case_numbers && compare_in "$top/tools/compare"; }
 
 # Runs the comparison tests of the folder $1: just those that are named above, neither fewer nor more. They take the
-# archive as it is; the longest runs beside the rest, and is printed after them.
+# archives as they are; the longest runs beside the rest, and is printed after them.
 compare_in() {
     local each there log other status=0
     there=$(cd "$1" && LC_ALL=C && echo *.sh)

@@ -291,6 +291,17 @@ impl Filling {
         self.scene("mixed history", self.tables(LOADING), calls)
     }
 
+    /// SM?KQ of a slot that has every key: no response has more numbers.
+    fn longest_query(self) -> Scene {
+        let slot = self.last();
+        let mut tables = self.tables(IDLE);
+        for place in 0..self.filled_registers {
+            tables.put_card(place, &self.content.stored(place, &slot));
+        }
+        let request = requests::of_slot(Command::KQ, &slot);
+        self.scene("SM?KQ, every key of one slot", tables, vec![Call::Handle(request, 0)])
+    }
+
     fn scenes(self) -> Vec<Scene> {
         let mut scenes: Vec<Scene> = Command::ALL.into_iter().map(|command| self.accepted(command)).collect();
         scenes.push(self.history());
@@ -300,7 +311,8 @@ impl Filling {
 }
 
 /// Each command, a mixed history and `usable`, over each filling; then four commands over each further content, the
-/// list that has the most to put in sequence, cards with SGN, and keys of a slot whose session is open.
+/// list that has the most to put in sequence, the query that has the most numbers, cards with SGN, and keys of a slot
+/// whose session is open.
 pub fn all() -> Vec<Scene> {
     let mut scenes: Vec<Scene> = FILLINGS.into_iter().flat_map(Filling::scenes).collect();
     for content in FURTHER {
@@ -308,6 +320,7 @@ pub fn all() -> Vec<Scene> {
         scenes.extend([Command::RS, Command::KC, Command::KR, Command::KL].map(|command| full.accepted(command)));
     }
     scenes.push(Filling { content: DESCENDING, ..FULL }.accepted(Command::GL));
+    scenes.push(FULL.longest_query());
     for content in [GROUP_NAMES, SOME_GROUP_NAMES] {
         let full = Filling { content, ..FULL };
         scenes.extend([Command::RS, Command::KL, Command::GA].map(|command| full.accepted(command)));

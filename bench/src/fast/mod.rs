@@ -157,7 +157,10 @@ impl<'a> Call<'a> {
         if status == b"EE" {
             match outcome {
                 15..=18 => reply.string(&[b'S', b'M', b'.', b'3', b'B', b'.', b'0' + outcome - 9]),
-                _ => reply.string(&[b'K', b'M', b'.', b'0' + outcome / 10, b'0' + outcome % 10]),
+                _ => {
+                    let [tens, ones] = text::two_digits(outcome);
+                    reply.string(&[b'K', b'M', b'.', tens, ones])
+                }
             };
         }
         reply.end()

@@ -1,6 +1,6 @@
 //! A response, written where it belongs.
 
-use super::crc;
+use super::{crc, text};
 
 pub struct Reply<'a> {
     buffer: &'a mut [u8],
@@ -42,7 +42,7 @@ impl<'a> Reply<'a> {
 
     /// A register's number, at most two digits.
     pub fn number(&mut self, number: usize) -> &mut Self {
-        let digits = [b'0' + (number / 10) as u8, b'0' + (number % 10) as u8];
+        let digits = text::two_digits(number as u8);
         self.field(b'N', if number < 10 { &digits[1..] } else { &digits })
     }
 

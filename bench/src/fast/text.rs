@@ -55,6 +55,19 @@ pub fn is_decimal(bytes: &[u8], low: u64, high: u64) -> bool {
     decimal(bytes).is_some_and(|number| low <= number && number <= high)
 }
 
+/// The digits of a number below 100. The module's processor has no divide instruction (document 02, N4), so tens are
+/// taken away, eight, four, two and one of them: a loop that takes one at a time the compiler makes a division again.
+pub fn two_digits(number: u8) -> [u8; 2] {
+    let (mut tens, mut ones) = (b'0', number);
+    for times in [8, 4, 2, 1] {
+        if ones >= times * 10 {
+            ones -= times * 10;
+            tens += times;
+        }
+    }
+    [tens, b'0' + ones]
+}
+
 const ONES: u64 = 0x0101_0101_0101_0101;
 const HIGHS: u64 = 0x80 * ONES;
 

@@ -4,5 +4,4 @@ pub mod ComputedRefusals
 pub mod ComputedReplies
 pub mod ComputedLists
 pub mod StoredCard
-pub mod Numbers
 pub mod Statuses

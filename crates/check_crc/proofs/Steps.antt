@@ -1,6 +1,6 @@
 -- The steps over the bytes: the check value from the value so far of the bytes that are left is the whole.
 use mathlib.Core.Path.{_≡_, refl, sym, ap, ap₂, _∙_}
-use mathlib.Core.Logic.{⊎-elim}
+use mathlib.Core.Logic.{_⊎_, inl, inr, ⊎-elim}
 use mathlib.Core.List.{List}
 use Prim.Native.Nat.{ℕ, zero, suc, _+_, _-_, _*_, _/_, _%_, _<_, _≤_, _^_}
 use native.Mathlib.Nat.{mod-lt, div-eq-of-lt, mod-eq-of-lt}
@@ -118,16 +118,33 @@ from-turn whole v lacks w s i g h e p =
           ∙ ap (λ (y : ℕ). bitXor y (factor lacks)) (sym step) ∙ p .goes;
     }
 
--- eight bytes and the rest
-pub from-done : (whole v lacks w c x : ℕ) (s : List ℕ) (i : ℕ) → Bytes s → i + 8 ≤ length s → w ≡ littleEndian 8 (drop i s)
-    → SoFar whole v lacks (drop i s) → c ≡ bitXor (crcOf (bitXor v w) (replicate 8 0)) (ones lacks % 2 * 0xC001)
-    → x ≡ crcOf c (take (length s - (i + 8)) (drop (i + 8) s)) → x ≡ whole
-from-done whole v lacks w c x s i g h e p q r =
+-- eight bytes, which leave sixteen bits and no lack
+pub from-eight : (whole v lacks w c : ℕ) (s : List ℕ) (i : ℕ) → Bytes s → 8 ≤ length s - i → w ≡ littleEndian 8 (drop i s)
+    → SoFar whole v lacks (drop i s) → c ≡ bitXor (crcOf (bitXor v w) (replicate 8 0)) (ones lacks % 2 * 0xC001) → c < 65536
+    → SoFar whole c 0 (drop (i + 8) s)
+unfolding factor parityOf
+from-eight whole v lacks w c s i g h e p q l =
     let t : List ℕ = drop (i + 8) s in
     let f : ℕ = ones lacks % 2 * 0xC001 in
     let taken : crcOf v (drop i s) ≡ crcOf (eights 8 (bitXor v w)) t =
     rw (e, ← drop-drop 8 i s) (crc-word 8 v (drop i s) (bytes-drop i s g) (rw (length-drop i s) (omega arith))) in
-    r ∙ ap₂ crcOf (q ∙ ap (λ (y : ℕ). bitXor y f) (crc-zeros (bitXor v w))) (rest s (i + 8))
-    ∙ crc-xor (eights 8 (bitXor v w)) f t
-    ∙ ap₂ bitXor (sym taken) (factor-stays (length t) (ones lacks % 2) (mod-lt (ones lacks) (lit< tt)) ∙ ones-factor lacks (p .lacks-fits))
-    ∙ p .goes
+    record {
+      fits = omega arith;
+      lacks-fits = lit< tt;
+      goes =
+          xor-zero-r (crcOf c t) ∙ ap (λ (x : ℕ). crcOf x t) (q ∙ ap (λ (y : ℕ). bitXor y f) (crc-zeros (bitXor v w)))
+          ∙ crc-xor (eights 8 (bitXor v w)) f t
+          ∙ ap₂ bitXor (sym taken) (factor-stays (length t) (ones lacks % 2) (mod-lt (ones lacks) (lit< tt)) ∙ ones-factor lacks (p .lacks-fits))
+          ∙ p .goes;
+    }
+
+-- what a turn needs: eight bytes more, or else sixteen bits alone
+abbrev pub Ready : ℕ → ℕ → ℕ → Type 0
+Ready n v lacks = (8 ≤ n) ⊎ ((v < 65536) × (lacks ≡ 0))
+
+pub from-done : (whole v lacks x : ℕ) (s : List ℕ) (i : ℕ) → SoFar whole v lacks (drop i s) → Ready (length s - i) v lacks → length s - i < 8
+    → x ≡ crcOf (v % 65536) (take (length s - i) (drop i s)) → x ≡ whole
+unfolding factor parityOf
+from-done whole v lacks x s i p (inl h) l q = absurd (omega arith)
+from-done whole v lacks x s i p (inr h) l q =
+    q ∙ ap₂ crcOf (mod-eq-of-lt (h .0)) (rest s i) ∙ sym (xor-zero-r (crcOf v (drop i s))) ∙ (rw (h .1) at (p .goes))

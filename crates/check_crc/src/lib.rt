@@ -13,9 +13,6 @@ ghost use lib.ListN.{length, drop, replicate};
 ghost use Rattle.check_crc.specs.Crc.{crcByte, crcOf, arcOf, modbusOf};
 ghost use Rattle.check_crc.specs.Words.{littleEndian};
 
-// 2^56: seven bytes as a number are below it.
-const SEVEN: u64 = 72057594037927936;
-
 fn wide(b: u8) -> u64
     ensures { λ r. ⌜ (r ≡ b) × (r < 256) ⌝ }
 {
@@ -93,25 +90,28 @@ fn crc_word(v: u64, lacks: u64) -> u16
     with_factor(r, v ^ r ^ lacks)
 }
 
-// The check value of s, from a start value: seven bytes at a step while at least eight are left after them, then eight,
-// which leave sixteen bits, then byte by byte. The second factor is lacking where `lacks` has an odd count of ones.
+// The check value of s, from a start value: seven bytes, a number below 2^56, at a step while at least eight are left
+// after them, then eight, which leave sixteen bits, then byte by byte. The second factor is lacking where `lacks` has
+// an odd count of ones. Both steps are turns of one loop: steps of one size alone are counted by a division.
 fn crc_from(start: u16, s: &[u8]) -> u16
     ensures { λ r. ⌜ r ≡ crcOf start (now (s .entry)) ⌝ }
 {
-    if s.len() < 8 {
-        return crc_bytes(start, s);
-    }
     let mut v = start as u64;
     let mut lacks = 0;
     let mut i = 0;
-    while 15 <= s.len() - i {
-        let low = (v ^ word(s, i)) % SEVEN;
-        v = (low ^ (low * 16)) ^ (v / SEVEN);
-        lacks = lacks ^ low;
-        i += 7;
+    while 8 <= s.len() - i {
+        if 15 <= s.len() - i {
+            let low = (v ^ word(s, i)) % 0x100000000000000;
+            v = (low ^ (low * 16)) ^ (v / 0x100000000000000);
+            lacks = lacks ^ low;
+            i += 7;
+        } else {
+            v = crc_word(v ^ word(s, i), lacks) as u64;
+            lacks = 0;
+            i += 8;
+        }
     }
-    let c = crc_word(v ^ word(s, i), lacks);
-    crc_bytes(c, &s[i + 8..])
+    crc_bytes((v % 65536) as u16, &s[i..])
 }
 
 // CRC-16/ARC, of requests and responses.

@@ -2,35 +2,19 @@
 use mathlib.Core.Path.{_≡_, refl}
 use mathlib.Core.Bool.{true}
 use mathlib.Core.List.{List}
-use mathlib.Core.Logic.{⊎-elim}
-use Prim.Native.Nat.{ℕ, zero, suc, _*_, _-_, _^_, _/_, _<_, _≤_}
-use native.Mathlib.Nat.{pow-suc}
+use Prim.Native.Nat.{ℕ, suc, _^_, _<_, _≤_}
 use native.Mathlib.Omega.{arith}
 use lib.Dec.{leb}
-use lib.ListN.{length, length-append}
+use lib.ListN.{length}
 use borrow.Author.Tests.{le-leb}
 use Rattle.byte_strings.specs.Strings.{isNot, allOf}
 use Rattle.byte_strings.proofs.Flags.{and-first, and-second, and-both}
-use Rattle.byte_strings.proofs.Below.{below-or}
 use Rattle.text_classes.specs.declared.Class.the-variants.{Digit}
 use Rattle.text_classes.proofs.ClassLaws.{class-plain}
 use Rattle.text_decimals.specs.Decimals.{isNumber}
-use Rattle.text_decimal_writer.specs.Digits.{decDigits, decimalBytes}
-use Rattle.text_decimal_writer.proofs.DigitLaws.{digits-one, digits-more, digits-none}
+use Rattle.text_decimal_writer.specs.Digits.{decimalBytes}
+use Rattle.text_decimal_writer.proofs.DigitLaws.{few-under}
 use Rattle.text_decimal_writer.proofs.RoundTrip.{written-number, written-digits}
-
-few-under : (j k v : ℕ) → v < 10 ^ suc k → length (decDigits j v) ≤ suc k
-few-under zero k v h = rw digits-none (omega arith)
-few-under (suc j) zero v h = rw (digits-one (suc j) v (omega arith) h) (omega arith)
-few-under (suc j) (suc k) v h =
-    let q : 10 ^ suc (suc k) ≡ 10 ^ suc k * 10 = pow-suc 10 (suc k) in
-    let e : suc j - 1 ≡ j = omega arith in
-    ⊎-elim
-    (λ (l : v < 10). rw (digits-one (suc j) v (omega arith) l) (omega arith))
-    (λ (l : 10 ≤ v).
-    let f = few-under j k (v / 10) (omega arith) in
-    rw (digits-more (suc j) v (omega arith) l, length-append, e) (omega arith))
-    (below-or v 10)
 
 fewer : (digits low high : ℕ) (w : List ℕ) → isNumber 10 low high w ≡ true → length w ≤ digits → isNumber digits low high w ≡ true
 unfolding isNumber

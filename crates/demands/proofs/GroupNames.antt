@@ -36,7 +36,7 @@ use Rattle.engine.proofs.AnswerLaws.{isYes}
 use Rattle.engine.proofs.ReadsBack.{shown-row}
 use Rattle.engine.proofs.RowWords.{register-row, filled-key, vacant-reads}
 use Rattle.engine.proofs.Steps.{Yes, yes-of}
-use Rattle.case_answers.proofs.Numbers.{number-range}
+use Rattle.engine.proofs.Numbers.{number-range}
 use Rattle.case_answers.proofs.StoredCard as stored
 use Rattle.entry_contracts.specs.Handles.{Run, Handles, inputIn}
 use Rattle.demands.specs.Demands.{responseIn, SaysReply, Runs, itemIn}

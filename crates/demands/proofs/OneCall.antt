@@ -27,7 +27,7 @@ use Rattle.engine.proofs.QuestionLaws.{all-yes}
 use Rattle.engine.proofs.ReadsBack.{reads-back}
 use Rattle.engine.proofs.SlotStates.{isSession, state-left, state-carried}
 use Rattle.engine.proofs.AnswerLaws.{first-no-decides, refused-by, refused-keeps, no-reply-exactly}
-use Rattle.case_answers.proofs.Numbers.{one-number, number-range, answer-zero, answer-within}
+use Rattle.engine.proofs.Numbers.{one-number, number-range, answer-zero, answer-within}
 use Rattle.entry_contracts.specs.Numbers.{stateByte}
 use Rattle.entry_contracts.specs.Handles.{Run, Handles, inputIn}
 use Rattle.demands.specs.Demands.{responseIn, SaysReply, slotNameIn, Demand1, Demand2}

@@ -14,3 +14,4 @@ pub mod SlotStates
 pub mod ReplyTypes
 pub mod Counted
 pub mod Vending
+pub mod Numbers

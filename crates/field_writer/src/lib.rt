@@ -18,7 +18,7 @@ fn put_content(dst: &mut [u8], at: usize, kind: u8, v: &[u8]) -> usize
 
 // Writes a number, and answers the place after it.
 pub fn put_number(dst: &mut [u8], at: usize, value: u32) -> usize
-    requires { ⌜ at + 12 ≤ length (now dst) ⌝ }
+    requires { ⌜ at + length (fieldBytes (number value)) ≤ length (now dst) ⌝ }
     ensures { λ r. ⌜ Writes dst at (fieldBytes (number value)) r ⌝ }
     ensures short { λ r. ⌜ r ≤ at + 12 ⌝ }
 {

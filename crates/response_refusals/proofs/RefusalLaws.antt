@@ -1,8 +1,8 @@
 -- What is told is the response; the number chooses the header.
-use mathlib.Core.Path.{_≡_}
+use mathlib.Core.Path.{_≡_, refl, ap}
 use mathlib.Core.List.{List, [], _∷_}
 use mathlib.Core.Option.{Option, none, some}
-use Prim.Native.Nat.{ℕ, _+_, _≤_, _<_}
+use Prim.Native.Nat.{ℕ, _+_, _*_, _/_, _%_, _≤_, _<_}
 use native.Mathlib.Omega.{arith}
 use types.Run.{OneOf, miss}
 use denote.Enum.Declared.{tagOf}
@@ -14,15 +14,23 @@ use Rattle.field_values.specs.Values.{string, fieldBytes, payloadBytes}
 use Rattle.message_frames.specs.Frames.{headerOf, answered, ending, headBytes}
 use Rattle.message_replies.specs.Responses.{responseBytes}
 use Rattle.response_refusals.proofs.ReplyLaws.{replied, header-five}
-use Rattle.engine.specs.Refusals.{Header, general, own, extended, refusal}
+use Rattle.engine.specs.Refusals.{Header, general, own, extended, refusal, km}
 use Rattle.engine.specs.Answers.{errorHeader, responseOf, refusalReply}
 use Rattle.engine.specs.declared.Refusal.{Refusal}
+use Rattle.engine.proofs.Numbers.{number-range}
 use Rattle.response_numbers.specs.RefusalForms.{statusIn, fieldsIn, refusalIn}
 use Rattle.response_numbers.specs.declared.Entry.{Entry}
 use Rattle.response_numbers.specs.declared.ReplyForm.{ReplyForm}
 use Rattle.response_numbers.specs.declared.ReplyForm.the-variants.{Nothing, Status, Numbered, Module}
 use Rattle.response_numbers.proofs.ReplyForm.{the-type}
 use Rattle.response_refusals.specs.RefusalForms.{CanRefuse}
+
+-- km_text: t tens and r ones are n
+pub two-digits : (n t r : ℕ) → t * 10 + r ≡ n → r < 10 → string (75 ∷ 77 ∷ 46 ∷ (48 + t) ∷ (48 + r) ∷ []) ∷ [] ≡ km n
+two-digits n t r e l =
+    let a : n / 10 ≡ t = omega arith in
+    let b : n % 10 ≡ r = omega arith in
+    rw (a, b) refl
 
 -- put_status
 pub status-put : {d f : List ℕ} {z : ℕ} (h : List ℕ) (t x : ReplyForm) → t ≡ x → Wrote d 0 (headBytes h (statusIn x)) f z → Wrote d 0 (headBytes h (statusIn t)) f z
@@ -63,6 +71,9 @@ can-tell (some own) n m i j = (omega arith, omega arith)
 
 -- refuse: e is the entry of r
 module _ (e : Entry) (r : Refusal) (p : refusalIn e ≡ refusal r) where
+  pub two-digits-do : e .0 < 100
+  two-digits-do = omega (arith, number-range r .1, ap (λ t. t .number) p)
+
   pub silently : (d q : List ℕ) → e .0 ≤ 4 → Wrote d 0 (responseOf (refusalReply q r)) d 0
   silently d q i = rw (← p, le-leb (e .0) 4 i) (writes.none d 0)
 

@@ -3,7 +3,7 @@ use engine::Refusal;
 use response_numbers::ReplyForm;
 ghost use mathlib.Core.Path.{_≡_};
 ghost use mathlib.Core.List.{[], _∷_};
-ghost use Prim.Native.Nat.{_+_, _≤_};
+ghost use Prim.Native.Nat.{_+_, _<_, _≤_};
 ghost use lib.ListN.{length};
 ghost use Rattle.byte_strings.specs.Wrote.{Writes};
 ghost use Rattle.field_values.specs.Values.{string, payloadBytes};
@@ -16,9 +16,17 @@ ghost use Rattle.response_refusals.specs.RefusalForms.{CanRefuse};
 
 // KM. and a number in two digits.
 fn km_text(number: u8) -> [u8; 5]
+    requires { ⌜ number < 100 ⌝ }
     ensures { λ v. ⌜ string v ∷ [] ≡ km number ⌝ }
 {
-    [b'K', b'M', b'.', b'0' + number / 10, b'0' + number % 10]
+    let tens = text_decimal_writer::take_away(number as u64, 10);
+    [
+        b'K',
+        b'M',
+        b'.',
+        b'0' + tens.times,
+        b'0' + (tens.rest as u8),
+    ]
 }
 
 // SM.3B. and a digit's character.
@@ -46,7 +54,7 @@ fn put_status(dst: &mut [u8], header: &[u8], form: ReplyForm) -> usize
 
 // Writes the fields of a refusal with a number, and answers the place after them.
 fn put_reason(dst: &mut [u8], at: usize, form: ReplyForm, number: u8) -> usize
-    requires { ⌜ at + 9 ≤ length (now dst) ⌝ }
+    requires { ⌜ (number < 100) × (at + 9 ≤ length (now dst)) ⌝ }
     ensures { λ r. ⌜ Writes dst at (payloadBytes (fieldsIn form number)) r ⌝ }
     ensures short { λ r. ⌜ r ≤ at + 9 ⌝ }
 {
@@ -65,7 +73,7 @@ fn put_reason(dst: &mut [u8], at: usize, form: ReplyForm, number: u8) -> usize
 
 // Writes the response to a refusal with a number under a header, and answers its length.
 fn write_refusal(response: &mut [u8], header: &[u8], form: ReplyForm, number: u8) -> usize
-    requires { ⌜ (3 ≤ length (now header)) × (length (now header) + 16 ≤ length (now response)) ⌝ }
+    requires { ⌜ (number < 100) × (3 ≤ length (now header)) × (length (now header) + 16 ≤ length (now response)) ⌝ }
     ensures { λ r. ⌜ Writes response 0
         (responseBytes (now (header .entry)) (statusIn form) (fieldsIn form number)) r ⌝ }
     ensures fits { λ r. ⌜ r ≤ length (now (response .entry)) ⌝ }

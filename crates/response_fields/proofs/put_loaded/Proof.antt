@@ -1,4 +1,5 @@
 -- `response_fields::put_loaded` meets its contract: the number, then the card.
+use Rattle.field_writer.proofs.Lengths.{number-room}
 use Rattle.response_fields.proofs.FieldsWritten.{then-fields, card-fits, card-short}
 use borrow.Author.Needs.{needs}
 use Rattle.response_fields.proofs.put_loaded.Statement.{statement}
@@ -13,7 +14,7 @@ put-loaded-spec =
     (tie.spec
     (λ c. search needs)
     (λ c. search needs)
-    (λ c κs. search needs)
+    (λ c κs. search (number-room, needs))
     (λ c κs. (search needs, search card-fits))
     (λ c. search needs)
     returns)

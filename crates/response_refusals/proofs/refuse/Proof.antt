@@ -1,5 +1,5 @@
 -- `response_refusals::refuse` meets its contract: silence, GL!ER, or the header of the request, by the number of the refusal.
-use Rattle.response_refusals.proofs.RefusalLaws.{silently, general-fits, generally, own-long, own-fits, own-replied}
+use Rattle.response_refusals.proofs.RefusalLaws.{two-digits-do, silently, general-fits, generally, own-long, own-fits, own-replied}
 use borrow.Author.Needs.{needs}
 use Rattle.response_refusals.proofs.refuse.Statement.{statement}
 use Rattle.response_refusals.proofs.refuse.Tie as tie
@@ -11,10 +11,10 @@ refuse-spec =
     (λ c κs. search needs)
     (λ c. (search silently, search needs))
     (λ c. search needs)
-    (λ c κs. (search needs, search general-fits))
+    (λ c κs. (search two-digits-do, search needs, search general-fits))
     (λ c. search needs)
     (λ c. (search generally, search needs))
     (λ c κs. search needs)
-    (λ c κs. (search own-long, search own-fits))
+    (λ c κs. (search two-digits-do, search own-long, search own-fits))
     (λ c. search needs)
     (λ c. (search own-replied, search needs)))
