@@ -70,19 +70,19 @@ fn edges(kind: Kind) -> Vec<u64> {
 }
 
 /// The number that has another digit than 0 where the bits have a one, and nowhere else; none where it is too great.
-fn noughts(kind: Kind, bits: u32, mut other: impl FnMut() -> u128) -> Option<u64> {
+fn zeros(kind: Kind, bits: u32, mut other: impl FnMut() -> u128) -> Option<u64> {
     let digit = |place: u32| if bits >> place & 1 == 1 { other() } else { 0 };
     let number = (0..kind.places()).rev().map(digit).fold(0, |number, digit| number * 10 + digit);
     u64::try_from(number).ok().filter(|&number| number <= kind.greatest())
 }
 
-/// Every number to a million; noughts at every choice of places; and random numbers, as many of each length.
+/// Every number to a million; zeros at every choice of places; and random numbers, as many of each length.
 fn many(kind: Kind) -> impl Iterator<Item = u64> {
     let choices = 1..1_u32 << kind.places();
     let (mut digits, mut draws) = (Generator::new(1), Generator::new(2));
-    let ones = choices.clone().filter_map(move |bits| noughts(kind, bits, || 1));
-    let nines = choices.clone().filter_map(move |bits| noughts(kind, bits, || 9));
-    let drawn = choices.filter_map(move |bits| noughts(kind, bits, || digits.between(1, 9) as u128));
+    let ones = choices.clone().filter_map(move |bits| zeros(kind, bits, || 1));
+    let nines = choices.clone().filter_map(move |bits| zeros(kind, bits, || 9));
+    let drawn = choices.filter_map(move |bits| zeros(kind, bits, || digits.between(1, 9) as u128));
     let lengths = (1..=kind.places()).flat_map(|length| std::iter::repeat_n(length, 30_000));
     let random = lengths.map(move |length| {
         let least = 10_u64.pow(length - 1);
@@ -174,7 +174,7 @@ fn by_another_power(value: u64, place: u32, power: u64) -> String {
     digits
 }
 
-fn without_inner_noughts(value: u64) -> String {
+fn without_inner_zeros(value: u64) -> String {
     let digits = value.to_string();
     let last = digits.len() - 1;
     digits
@@ -189,10 +189,10 @@ fn wrong_digits(kind: Kind) -> Vec<(String, Digits)> {
     let first = 10_u64.pow(kind.places() - 1);
     let half = kind.greatest() / 2;
     let mut wrong: Vec<(String, Digits)> = vec![
-        ("a leading nought".into(), Box::new(|value| format!("0{value}"))),
+        ("a leading zero".into(), Box::new(|value| format!("0{value}"))),
         ("two digits at least".into(), Box::new(|value| format!("{value:02}"))),
-        ("noughts inside left out".into(), Box::new(without_inner_noughts)),
-        ("noughts at the end left out".into(), Box::new(|value| value.to_string().trim_end_matches('0').into())),
+        ("zeros inside left out".into(), Box::new(without_inner_zeros)),
+        ("zeros at the end left out".into(), Box::new(|value| value.to_string().trim_end_matches('0').into())),
         ("0 as nothing".into(), Box::new(|value| if value == 0 { String::new() } else { value.to_string() })),
         (
             "one too small at a power of ten".into(),
