@@ -31,8 +31,8 @@ use Rattle.engine.proofs.RefusalLaws.{isUnwritten, Group, of-tables, of-message
 use Rattle.engine.proofs.AnswerWords.{header-five, refusal-said}
 use Rattle.engine.proofs.AnswerLaws.{isYes, refused-by}
 use Rattle.engine.proofs.Steps.{yes-of}
-use Rattle.case_answers.proofs.Accepted.{none-first}
 use Rattle.engine.proofs.Numbers.{numberOf, every-refusal}
+use Rattle.case_answers.proofs.Accepted.{none-first}
 
 -- how a refusal is replied, by its number: the header as `headerFor` has it; the status is 20 for 6, 21 for 7, 27 for 12, 28 for 20, 22 for 21, else EE,
 abbrev pub statusFor : ℕ → List ℕ

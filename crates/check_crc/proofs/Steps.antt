@@ -138,7 +138,7 @@ from-eight whole v lacks w c s i g h e p q l =
           ∙ p .goes;
     }
 
--- what a turn needs: eight bytes more, or else sixteen bits alone
+-- before a turn there are eight bytes more, or else sixteen bits alone and nothing lacking
 abbrev pub Ready : ℕ → ℕ → ℕ → Type 0
 Ready n v lacks = (8 ≤ n) ⊎ ((v < 65536) × (lacks ≡ 0))
 

@@ -1,10 +1,9 @@
 -- How many bytes fields take.
 use mathlib.Core.Path.{_≡_}
 use mathlib.Core.List.{List, [], _∷_}
-use Prim.Native.Nat.{ℕ, _+_, _≤_, _<_}
+use Prim.Native.Nat.{ℕ, _+_, _≤_}
 use native.Mathlib.Omega.{arith}
 use lib.ListN.{length, length-append}
-use Rattle.byte_strings.specs.Wrote.{Wrote}
 use Rattle.text_decimal_writer.specs.Digits.{decimalBytes}
 use Rattle.text_decimal_writer.proofs.RoundTrip.{written-short}
 use Rattle.field_values.specs.Values.{Value, number, string, octets, contentBytes, fieldBytes, payloadBytes}
@@ -27,19 +26,8 @@ pub number-room : (a k v n : ℕ) → a + k ≤ n → 12 ≤ k → a + length (f
 number-room a k v n h l = omega (arith, number-short v)
 
 -- put_number: its type, its digits and its end fit
-module _ (a v n : ℕ) (h : a + length (fieldBytes (number v)) ≤ n) where
-  longer : a + length (decimalBytes v) + 2 ≤ n
-  longer = omega (arith, content-length 78 (decimalBytes v))
-
-  pub type-fits : a < n
-  type-fits = omega (arith, longer)
-
-  module _ {d e : List ℕ} {b t : ℕ} (u : Wrote d a (t ∷ []) e b) where
-    pub digits-fit : (m : ℕ) → m ≡ n → b + length (decimalBytes v) ≤ m
-    digits-fit m s = omega (arith, longer, u .next)
-
-    pub end-fits : {f : List ℕ} {c : ℕ} → Wrote e b (decimalBytes v) f c → (m : ℕ) → m ≡ n → c < m
-    end-fits w m s = omega (arith, longer, u .next, w .next)
+pub number-parts : (a v n : ℕ) → a + length (fieldBytes (number v)) ≤ n → a + length (decimalBytes v) + 2 ≤ n
+number-parts a v n h = omega (arith, content-length 78 (decimalBytes v))
 
 -- a field, and fields after it
 pub payload-length : (v : Value) (vs : List Value) → length (payloadBytes (v ∷ vs)) ≡ length (fieldBytes v) + length (payloadBytes vs)

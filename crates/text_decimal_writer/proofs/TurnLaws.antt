@@ -18,9 +18,9 @@ use Rattle.text_decimal_writer.proofs.DigitLaws.{digits-none, digits-on
 use Rattle.text_decimal_writer.proofs.PowerLaws.{power-at}
 
 -- v has a digit at 10 ^ m: the power is the last, or is not above v
-has : (v m : ℕ) → (leb (10 ^ m) v || eqb (10 ^ m) 1) ≡ true → (m ≡ 0) ⊎ (10 ^ m ≤ v)
-has v zero e = inl refl
-has v (suc m) e = go (leb (10 ^ suc m) v) (eqb (10 ^ suc m) 1) refl refl e
+has-one : (v m : ℕ) → (leb (10 ^ m) v || eqb (10 ^ m) 1) ≡ true → (m ≡ 0) ⊎ (10 ^ m ≤ v)
+has-one v zero e = inl refl
+has-one v (suc m) e = go (leb (10 ^ suc m) v) (eqb (10 ^ suc m) 1) refl refl e
   where
     go : (x y : Bool) → leb (10 ^ suc m) v ≡ x → eqb (10 ^ suc m) 1 ≡ y → (x || y) ≡ true → (suc m ≡ 0) ⊎ (10 ^ suc m ≤ v)
     go true y p q e = inr (leb-true (10 ^ suc m) v p)
@@ -28,8 +28,8 @@ has v (suc m) e = go (leb (10 ^ suc m) v) (eqb (10 ^ suc m) 1) refl refl e
     go false false p q e = nope (cc)
 
 -- and it has none: the power is above v, and is not the last
-has-not : (v m : ℕ) → (leb (10 ^ m) v || eqb (10 ^ m) 1) ≡ false → (0 < m) × (v < 10 ^ m)
-has-not v m e = go (leb (10 ^ m) v) (eqb (10 ^ m) 1) refl refl e
+has-none : (v m : ℕ) → (leb (10 ^ m) v || eqb (10 ^ m) 1) ≡ false → (0 < m) × (v < 10 ^ m)
+has-none v m e = go (leb (10 ^ m) v) (eqb (10 ^ m) 1) refl refl e
   where
     some : (m : ℕ) → (10 ^ m ≡ 1 → ⊥) → 0 < m
     some zero n = absurd (n refl)
@@ -183,10 +183,10 @@ module _ (k v a i : ℕ) (d e : List ℕ) (b rest : ℕ) (t : Told k v a (20 - i
     pub told-passed : y ≡ false → Told k v a (20 - (i + 1)) d e b rest
     told-passed q =
         let z : 20 - (i + 1) ≡ m = omega arith in
-        let s = has-not v m (rw (power, q) at (sym u)) in
+        let s = has-none v m (rw (power, q) at (sym u)) in
         rw z (told-none-here k v a m d e b rest here (omega arith) (s .0) (s .1))
 
     pub told-next : (times rest′ : ℕ) → times * getD ps i 0 + rest′ ≡ rest → rest′ < getD ps i 0 → y ≡ true → {f : List ℕ} {c : ℕ} → Wrote e b ((48 + times) ∷ []) f c → Told k v a (20 - (i + 1)) d f c rest′
     told-next times rest′ taken left q w =
         let z : 20 - (i + 1) ≡ m = omega arith in
-        rw z (told-digit k v a m d e b rest here (omega arith) (has v m (rw (power, q) at (sym u))) times rest′ (rw power at taken) (rw power at left) w)
+        rw z (told-digit k v a m d e b rest here (omega arith) (has-one v m (rw (power, q) at (sym u))) times rest′ (rw power at taken) (rw power at left) w)

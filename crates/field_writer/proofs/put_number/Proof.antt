@@ -1,5 +1,5 @@
 -- `field_writer::put_number` meets its contract: type, digits, end.
-use Rattle.field_writer.proofs.Lengths.{type-fits, digits-fit, end-fits}
+use Rattle.field_writer.proofs.Lengths.{number-parts}
 use Rattle.field_writer.proofs.WriteLaws.{content-written}
 use borrow.Author.Needs.{needs}
 use Rattle.field_writer.proofs.put_number.Statement.{statement}
@@ -9,8 +9,8 @@ pub put-number-spec : {M : Type 1} → statement M
 put-number-spec =
     tie.close
     (tie.spec
-    (λ c κs. search type-fits)
-    (λ c κs. search digits-fit)
-    (λ c κs. search (end-fits, needs))
+    (λ c κs. search (needs, number-parts _ _ _ (c .before .before .pre)))
+    (λ c κs. search (needs, number-parts _ _ _ (c .before .before .before .before .before .before .pre)))
+    (λ c κs. search (needs, number-parts _ _ _ (c .before .before .before .before .before .before .before .before .before .before .pre)))
     (λ c. search needs)
     (λ c. (search content-written, search needs)))
