@@ -3,7 +3,7 @@
 
 # The default: prints the commands with the time that they take.
 help:
-	@echo 'make test                       all that must hold: documents, proofs, wrong answers, comparisons   21 min'
+	@echo 'make test                       all that must hold: documents, proofs, wrong answers, comparisons   23 min'
 	@echo 'make lib PREFIX=folder          the static library, its header and a pkg-config file          7 min, 5 s'
 	@echo 'make run                        the console on the story of scripts/story.txt                 7 min, 5 s'
 	@echo 'make vectors                    the worked examples of the papers, value by value             4 min, 5 s'
