@@ -73,7 +73,8 @@ fn put_reason(dst: &mut [u8], at: usize, form: ReplyForm, number: u8) -> usize
 
 // Writes the response to a refusal with a number under a header, and answers its length.
 fn write_refusal(response: &mut [u8], header: &[u8], form: ReplyForm, number: u8) -> usize
-    requires { ⌜ (number < 100) × (3 ≤ length (now header)) × (length (now header) + 16 ≤ length (now response)) ⌝ }
+    requires { ⌜ (number < 100) × (3 ≤ length (now header))
+        × (length (now header) + 16 ≤ length (now response)) ⌝ }
     ensures { λ r. ⌜ Writes response 0
         (responseBytes (now (header .entry)) (statusIn form) (fieldsIn form number)) r ⌝ }
     ensures fits { λ r. ⌜ r ≤ length (now (response .entry)) ⌝ }
