@@ -39,7 +39,7 @@ pub const VND: u32 = 0x564E44;
 
 // Whether an incoming card must have the attribute, may have it with a default where it has not, the attribute belongs
 // to the engine, or it is kept just where the incoming card has it.
-#[derive(Drop)]
+#[derive(Clone, Copy)]
 pub enum Presence {
     Required,
     Optional,
@@ -48,7 +48,7 @@ pub enum Presence {
 }
 
 // Name, presence, and form of the value.
-#[derive(Drop)]
+#[derive(Clone, Copy)]
 pub struct Attribute(pub u32, pub Presence, pub Form);
 
 pub const ROWS: usize = 16;

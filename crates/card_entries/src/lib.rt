@@ -5,7 +5,7 @@ ghost use Rattle.card_entries.specs.Entries.{name_of};
 use text_classes::Class;
 
 // Where a value stands in a card.
-#[derive(Drop)]
+#[derive(Clone, Copy)]
 pub enum Found {
     At { start: usize, end: usize },
     Nothing,

@@ -81,7 +81,7 @@ fn has_required(values: [Bounds; ROWS]) -> bool
 
 // An incoming card, read: whether it is in form; and where it is, the bounds of the value of each attribute by the
 // attribute's index, 0 and 0 where the card has none.
-#[derive(Drop)]
+#[derive(Clone, Copy)]
 pub struct Incoming {
     pub in_form: bool,
     pub values: [Bounds; ROWS],

@@ -104,7 +104,7 @@ fn is_clear(s: &[u8], at: usize) -> bool
 }
 
 // Whether a card is one as stored; where the entries of KRN and KSL, the one after KSL, and that of SGC stand in it.
-#[derive(Drop)]
+#[derive(Clone, Copy)]
 pub struct Places {
     pub stored: bool,
     pub krn: usize,

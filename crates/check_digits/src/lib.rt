@@ -4,7 +4,7 @@ ghost use Rattle.byte_strings.specs.Wrote.{Writes};
 ghost use Rattle.check_digits.specs.Hex.{hex_digit, hex_value, hex4, from_digits, read_hex4};
 
 // What four bytes are read as.
-#[derive(Drop)]
+#[derive(Clone, Copy)]
 pub enum Hex4 {
     Number(u16),
     Bad,

@@ -6,7 +6,7 @@ ghost use Rattle.check_sums.specs.Checksum.{sum_of, sum_digits, ends_in_sum};
 use check_digits::Hex4;
 
 // Of which kind the CRC is: of a message, or of a record.
-#[derive(Drop)]
+#[derive(Clone, Copy)]
 pub enum Kind {
     Arc,
     Modbus,

@@ -5,7 +5,7 @@ use console_state::Console;
 use libc::{STDIN_FILENO, STDOUT_FILENO};
 
 // The console, the line that is being read, and its number.
-#[derive(Drop)]
+#[derive(Clone, Copy)]
 struct Session {
     console: Console,
     pending: Pending,
@@ -56,7 +56,7 @@ fn take_lines(s: Session, read: &[u8]) -> Session {
 }
 
 // What was read, and whether there was anything to read.
-#[derive(Drop)]
+#[derive(Clone, Copy)]
 struct Taken {
     session: Session,
     more: bool,

@@ -4,7 +4,7 @@ ghost use Rattle.std.specs.Prelude.{◌≡◌, [], ◌++◌, ◌≤◌, length, 
 ghost use Rattle.console_input.specs.Input.{held, next_number};
 
 // The bytes so far are the first `length`.
-#[derive(Drop)]
+#[derive(Clone, Copy)]
 pub struct Pending {
     pub bytes: [u8; 4097],
     pub length: usize,

@@ -7,7 +7,7 @@ ghost use Rattle.console_lines.specs.Lines.{slot_line, register_line, usable_lin
 use console_verbs::{Part, Verb};
 
 // What a line asks for. A row is a place among the rows, counted from 0.
-#[derive(Drop)]
+#[derive(Clone, Copy)]
 pub enum Line {
     Nothing,
     Tables {

@@ -9,7 +9,7 @@ use console_state::Console;
 use row_types::{Counts, Tables};
 
 // The state after a line, and how many bytes were printed.
-#[derive(Drop)]
+#[derive(Clone, Copy)]
 pub struct Stepped {
     pub console: Console,
     pub length: usize,

@@ -6,7 +6,7 @@ use console_lines::Line;
 use row_types::{Supplement, Tables};
 
 // The tables, the supplement, and how many bytes of response buffer are lent.
-#[derive(Drop)]
+#[derive(Clone, Copy)]
 pub struct Console {
     pub tables: Tables,
     pub supplement: Supplement,

@@ -3,7 +3,7 @@ ghost use Rattle.std.specs.Prelude.{◌≡◌, ◌∷◌, ◌+◌, ◌<◌, drop
 ghost use Rattle.console_verbs.specs.Verbs.{verbs, verb_of};
 
 // The parts of the supplement that a line can set.
-#[derive(Drop)]
+#[derive(Clone, Copy)]
 pub enum Part {
     Clock,
     Identity,
@@ -13,7 +13,7 @@ pub enum Part {
 }
 
 // The first words that there are, and what is none of them.
-#[derive(Drop)]
+#[derive(Clone, Copy)]
 pub enum Verb {
     Tables,
     Buffer,
@@ -30,7 +30,7 @@ pub enum Verb {
 }
 
 // A first word in eight bytes, zero after its end.
-#[derive(Drop)]
+#[derive(Clone, Copy)]
 pub struct Named(pub Verb, pub [u8; 8]);
 
 const VERBS: [Named; 15] = [

@@ -9,7 +9,7 @@ use engine::{Decision, Refusal};
 
 // In the payload, the bounds of the slot's identifier, of the fingerprint and of the card; and in the card, those of
 // the value of each attribute.
-#[derive(Drop)]
+#[derive(Clone, Copy)]
 pub struct Parts {
     pub slot: Bounds,
     pub fingerprint: Bounds,
@@ -18,7 +18,7 @@ pub struct Parts {
 }
 
 // What is to be done, and with which parts of the payload.
-#[derive(Drop)]
+#[derive(Clone, Copy)]
 pub struct Decided {
     pub decision: Decision,
     pub parts: Parts,

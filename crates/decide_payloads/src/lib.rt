@@ -15,21 +15,21 @@ use card_entries::Found;
 use field_values::Field;
 
 // A number that was read.
-#[derive(Drop)]
+#[derive(Clone, Copy)]
 pub enum Count {
     Is(u32),
     Nothing,
 }
 
 // Where two strings stand.
-#[derive(Drop)]
+#[derive(Clone, Copy)]
 pub struct Texts {
     pub first: Bounds,
     pub second: Bounds,
 }
 
 // Two strings that were read.
-#[derive(Drop)]
+#[derive(Clone, Copy)]
 pub enum TwoTexts {
     At(Texts),
     Nothing,

@@ -5,7 +5,7 @@
 // The outcome's number, the slot state that the answer carries (255 where it carries none), and the length of the
 // response.
 #[repr(C)]
-#[derive(Drop)]
+#[derive(Clone, Copy)]
 pub struct Reply {
     pub outcome: u8,
     pub state: u8,

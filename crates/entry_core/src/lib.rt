@@ -30,7 +30,7 @@ fn find(slots: [SlotRow; 8], counts: Counts, cards: &[[u8; 256]], marks: [u8; 32
 }
 
 // How a request ended, how long its response is, and the slot rows and the marks after it.
-#[derive(Drop)]
+#[derive(Clone, Copy)]
 pub struct Handled {
     pub outcome: Outcome,
     pub length: usize,

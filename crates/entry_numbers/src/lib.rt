@@ -12,7 +12,7 @@ use entry_contracts::Reply;
 use row_types::{Counts, RegisterRow, SlotRow, Supplement};
 
 // A reply, and the slot rows and the marks after it.
-#[derive(Drop)]
+#[derive(Clone, Copy)]
 pub struct Answered {
     pub reply: Reply,
     pub slots: [SlotRow; 8],
@@ -20,7 +20,7 @@ pub struct Answered {
 }
 
 // A reply, and the rows after it.
-#[derive(Drop)]
+#[derive(Clone, Copy)]
 pub struct AnsweredRows {
     pub reply: Reply,
     pub slots: [SlotRow; 8],

@@ -9,14 +9,14 @@ ghost use Rattle.field_reader.specs.Reading.{reader_of, next_in, past, alone, la
 use field_values::Field;
 
 // A payload, and the place of the next field.
-#[derive(Drop)]
+#[derive(Clone, Copy)]
 pub struct Reader<'a> {
     pub payload: &'a [u8],
     pub at: usize,
 }
 
 // The first field, and the second if nothing follows it, else `Bad`.
-#[derive(Drop)]
+#[derive(Clone, Copy)]
 pub struct TwoFields {
     pub first: Field,
     pub second: Field,

@@ -8,7 +8,7 @@ use text_classes::Class;
 
 // A field that was read: a number by its value, a string, date or hex octets by the bounds of its content in the
 // payload; or none.
-#[derive(Drop)]
+#[derive(Clone, Copy)]
 pub enum Field {
     Number(u32),
     Text { start: usize, end: usize },
@@ -18,7 +18,7 @@ pub enum Field {
 }
 
 // A field, and the place after it; where there is none, the place is where it was.
-#[derive(Drop)]
+#[derive(Clone, Copy)]
 pub struct Read {
     pub field: Field,
     pub next: usize,

@@ -4,7 +4,7 @@ ghost use Rattle.std.specs.Prelude.{◌≡◌, ◌∷◌, ◌+◌, ◌<◌, drop
 ghost use Rattle.message_commands.specs.Commands.{headers, command_of};
 
 // The commands by the letters of their headers, and what is none of them.
-#[derive(Drop)]
+#[derive(Clone, Copy)]
 pub enum Command {
     RS,
     KC,
@@ -20,7 +20,7 @@ pub enum Command {
 }
 
 // A command and the header of its request.
-#[derive(Drop)]
+#[derive(Clone, Copy)]
 pub struct Header(pub Command, pub [u8; 5]);
 
 const HEADERS: [Header; 10] = [

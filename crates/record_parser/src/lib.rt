@@ -12,7 +12,7 @@ use check_sums::Kind;
 use text_classes::Class;
 
 // A record, cut: whether it is one; and where it is, the bounds of its type and of its fields.
-#[derive(Drop)]
+#[derive(Clone, Copy)]
 pub struct Record {
     pub parsed: bool,
     pub fields: [Bounds; 6],

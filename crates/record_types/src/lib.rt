@@ -9,7 +9,7 @@ use byte_bounds::Bounds;
 use record_parser::Record;
 
 // A public key record, cut, with its KMC identity.
-#[derive(Drop)]
+#[derive(Clone, Copy)]
 pub struct PublicKey {
     pub parsed: bool,
     pub fields: [Bounds; 6],
@@ -17,7 +17,7 @@ pub struct PublicKey {
 }
 
 // A load response record, cut, with its two identities.
-#[derive(Drop)]
+#[derive(Clone, Copy)]
 pub struct LoadResponse {
     pub parsed: bool,
     pub fields: [Bounds; 6],

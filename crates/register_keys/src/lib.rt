@@ -10,7 +10,7 @@ ghost use Rattle.row_index.specs.Lent.{row_with, rows_with};
 ghost use Rattle.register_keys.specs.Judged.{is_card_owned, card_number, card_owner, is_sound_under};
 
 // Whether a row is sound and owned; and where it is, its key and the number of its owner.
-#[derive(Drop)]
+#[derive(Clone, Copy)]
 struct Judged {
     sound: bool,
     key: u64,
@@ -92,7 +92,7 @@ fn judge_register(card: &[u8; 256], names: &[[u8; 40]]) -> Judged
 }
 
 // Whether each row is sound and owned; and where they are, their keys and the numbers of their owners.
-#[derive(Drop)]
+#[derive(Clone, Copy)]
 pub struct Findings {
     pub sound: bool,
     pub keys: [u64; 32],

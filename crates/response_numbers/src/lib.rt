@@ -8,7 +8,7 @@ use engine::{Outcome, Refusal};
 
 // How a refusal is replied: not at all; by a status of two characters; or as an extended error, by its own number or by
 // a digit of 003 clause 13.
-#[derive(Drop)]
+#[derive(Clone, Copy)]
 pub enum ReplyForm {
     Nothing,
     Status(u8, u8),
@@ -17,7 +17,7 @@ pub enum ReplyForm {
 }
 
 // A refusal's number, and how it is replied.
-#[derive(Drop)]
+#[derive(Clone, Copy)]
 pub struct Entry(pub u8, pub ReplyForm);
 
 // The table of the refusals.

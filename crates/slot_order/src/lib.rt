@@ -7,7 +7,7 @@ ghost use Rattle.slot_order.specs.Sequences.{name_at, is_before_at, are_below, s
 use row_types::{SlotRow, SlotState};
 
 // Places from `first` on, the last of them at 7.
-#[derive(Drop)]
+#[derive(Clone, Copy)]
 pub struct Sequence {
     pub places: [usize; 8],
     pub first: usize,

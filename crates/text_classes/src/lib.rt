@@ -4,7 +4,7 @@ ghost use Rattle.text_classes.specs.Classes.{within, is_alphanumeric, is_mark, i
 ghost use Rattle.text_classes.specs.Identifiers.{is_identifier};
 
 // The classes of bytes that the papers name.
-#[derive(Drop)]
+#[derive(Clone, Copy)]
 pub enum Class {
     Digit,
     Hexadecimal,

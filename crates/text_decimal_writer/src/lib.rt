@@ -37,7 +37,7 @@ fn powers_of_ten() -> [u64; 20]
 }
 
 // How often a number goes into another, and what is left of it.
-#[derive(Drop)]
+#[derive(Clone, Copy)]
 pub struct Taken {
     pub times: u8,
     pub rest: u64,

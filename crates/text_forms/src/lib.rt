@@ -5,7 +5,7 @@ ghost use Rattle.text_forms.specs.Forms.{is_algorithm, in_form};
 
 use text_classes::Class;
 
-#[derive(Drop)]
+#[derive(Clone, Copy)]
 pub enum Form {
     Timestamp,
     Algorithm,

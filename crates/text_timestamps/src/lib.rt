@@ -8,7 +8,7 @@ ghost use Rattle.text_timestamps.specs.declared.Moment.TheVariants.{At, Bad};
 ghost use Rattle.text_timestamps.specs.Timestamps.{is_date_and_time, timestamp_of, date_time_of, is_moment, is_later};
 
 // A moment as the number YYYYMMDDhhmmss, or none.
-#[derive(Drop)]
+#[derive(Clone, Copy)]
 pub enum Moment {
     At(u64),
     Bad,
