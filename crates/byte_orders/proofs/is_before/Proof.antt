@@ -8,18 +8,18 @@ use Rattle.byte_orders.proofs.BeforeLaws.{right_ended, left_ended, bytes_differ,
 use Rattle.byte_orders.proofs.is_before.Statement.{statement}
 use Rattle.byte_orders.proofs.is_before.Tie as tie
 
-abbrev invariant-loop : tie.invariant-loop
-invariant-loop a b i₀ i = (i ≤ length b) × (is_before (drop i a) (drop i b) ≡ is_before a b)
+abbrev invariant-loop-i : tie.invariant-loop-i
+invariant-loop-i a b i₀ i = (i ≤ length b) × (is_before (drop i a) (drop i b) ≡ is_before a b)
 
-abbrev decreases-loop : tie.decreases-loop
-decreases-loop a b i₀ i = length b - i
+abbrev decreases-loop-i : tie.decreases-loop-i
+decreases-loop-i a b i₀ i = length b - i
 
 pub is_before_spec : {M : Type 1} → statement M
 is_before_spec =
     tie.close
     (tie.spec
-    invariant-loop
-    decreases-loop
+    invariant-loop-i
+    decreases-loop-i
     (λ c. (search rules, refl))
     (λ c. search left_ended)
     (λ c. search rules)

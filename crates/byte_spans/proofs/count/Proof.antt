@@ -9,18 +9,18 @@ use Rattle.byte_spans.proofs.SpanLaws.{count_stopped, count_turn}
 use Rattle.byte_spans.proofs.count.Statement.{statement}
 use Rattle.byte_spans.proofs.count.Tie as tie
 
-abbrev invariant-loop : tie.invariant-loop
-invariant-loop s delimiter i₀ i = (i ≤ length s) × (i + run (is_not delimiter) (drop i s) ≡ run (is_not delimiter) s)
+abbrev invariant-loop-i : tie.invariant-loop-i
+invariant-loop-i s delimiter i₀ i = (i ≤ length s) × (i + run (is_not delimiter) (drop i s) ≡ run (is_not delimiter) s)
 
-abbrev decreases-loop : tie.decreases-loop
-decreases-loop s delimiter i₀ i = length s - i
+abbrev decreases-loop-i : tie.decreases-loop-i
+decreases-loop-i s delimiter i₀ i = length s - i
 
 pub count_spec : {M : Type 1} → statement M
 count_spec =
     tie.close
     (tie.spec
-    invariant-loop
-    decreases-loop
+    invariant-loop-i
+    decreases-loop-i
     (λ c. search rules)
     (λ c. search rules)
     (λ c. (search count_stopped, search rules))

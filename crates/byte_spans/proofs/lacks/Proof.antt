@@ -9,18 +9,18 @@ use borrow.Author.Rules.{rules}
 use Rattle.byte_spans.proofs.lacks.Statement.{statement}
 use Rattle.byte_spans.proofs.lacks.Tie as tie
 
-abbrev invariant-loop : tie.invariant-loop
-invariant-loop s delimiter none₀ k₀ none k = (k ≤ length s) × ((none && all_of (is_not delimiter) (drop k s)) ≡ all_of (is_not delimiter) s)
+abbrev invariant-loop-k : tie.invariant-loop-k
+invariant-loop-k s delimiter none₀ k₀ none k = (k ≤ length s) × ((none && all_of (is_not delimiter) (drop k s)) ≡ all_of (is_not delimiter) s)
 
-abbrev decreases-loop : tie.decreases-loop
-decreases-loop s delimiter none₀ k₀ none k = length s - k
+abbrev decreases-loop-k : tie.decreases-loop-k
+decreases-loop-k s delimiter none₀ k₀ none k = length s - k
 
 pub lacks_spec : {M : Type 1} → statement M
 lacks_spec =
     tie.close
     (tie.spec
-    invariant-loop
-    decreases-loop
+    invariant-loop-k
+    decreases-loop-k
     (λ c. (search rules, refl))
     (λ c. search rules)
     (λ c. search rules)

@@ -9,18 +9,18 @@ use borrow.Author.Rules.{rules}
 use Rattle.byte_spans.proofs.skip.Statement.{statement}
 use Rattle.byte_spans.proofs.skip.Tie as tie
 
-abbrev invariant-loop : tie.invariant-loop
-invariant-loop s delimiter at₀ at = (at ≤ length s) × (all_of (is_not delimiter) (take at s) ≡ true)
+abbrev invariant-loop-at : tie.invariant-loop-at
+invariant-loop-at s delimiter at₀ at = (at ≤ length s) × (all_of (is_not delimiter) (take at s) ≡ true)
 
-abbrev decreases-loop : tie.decreases-loop
-decreases-loop s delimiter at₀ at = length s - at
+abbrev decreases-loop-at : tie.decreases-loop-at
+decreases-loop-at s delimiter at₀ at = length s - at
 
 pub skip_spec : {M : Type 1} → statement M
 skip_spec =
     tie.close
     (tie.spec
-    invariant-loop
-    decreases-loop
+    invariant-loop-at
+    decreases-loop-at
     (λ c. (search rules, search rules))
     (λ c. search rules)
     (λ c. search rules)

@@ -8,18 +8,18 @@ use Rattle.byte_strings.proofs.StringLaws.{same_length, same_ended, same_not, sa
 use Rattle.byte_strings.proofs.same_bytes.Statement.{statement}
 use Rattle.byte_strings.proofs.same_bytes.Tie as tie
 
-abbrev invariant-loop : tie.invariant-loop
-invariant-loop a b i₀ i = (i ≤ length a) × (length a ≡ length b) × (same_bytes (drop i a) (drop i b) ≡ same_bytes a b)
+abbrev invariant-loop-i : tie.invariant-loop-i
+invariant-loop-i a b i₀ i = (i ≤ length a) × (length a ≡ length b) × (same_bytes (drop i a) (drop i b) ≡ same_bytes a b)
 
-abbrev decreases-loop : tie.decreases-loop
-decreases-loop a b i₀ i = length a - i
+abbrev decreases-loop-i : tie.decreases-loop-i
+decreases-loop-i a b i₀ i = length a - i
 
 pub same_bytes_spec : {M : Type 1} → statement M
 same_bytes_spec =
     tie.close
     (tie.spec
-    invariant-loop
-    decreases-loop
+    invariant-loop-i
+    decreases-loop-i
     (λ c. search same_length)
     (λ c. (search rules, search rules, refl))
     (λ c. search rules)

@@ -10,18 +10,18 @@ use Rattle.byte_strings.proofs.StringLaws.{same_length, secret_turn, secret_ende
 use Rattle.byte_strings.proofs.same_secret.Statement.{statement}
 use Rattle.byte_strings.proofs.same_secret.Tie as tie
 
-abbrev invariant-loop : tie.invariant-loop
-invariant-loop a b count same₀ k₀ same k = (count ≡ length a) × (k ≤ length a) × (length a ≡ length b) × ((same && same_bytes (drop k a) (drop k b)) ≡ same_bytes a b)
+abbrev invariant-loop-k : tie.invariant-loop-k
+invariant-loop-k a b count same₀ k₀ same k = (count ≡ length a) × (k ≤ length a) × (length a ≡ length b) × ((same && same_bytes (drop k a) (drop k b)) ≡ same_bytes a b)
 
-abbrev decreases-loop : tie.decreases-loop
-decreases-loop a b count same₀ k₀ same k = length a - k
+abbrev decreases-loop-k : tie.decreases-loop-k
+decreases-loop-k a b count same₀ k₀ same k = length a - k
 
 pub same_secret_spec : {M : Type 1} → statement M
 same_secret_spec =
     tie.close
     (tie.spec
-    invariant-loop
-    decreases-loop
+    invariant-loop-k
+    decreases-loop-k
     (λ c. search same_length)
     (λ c. (search rules, search rules, search rules, refl))
     (λ c. search rules)

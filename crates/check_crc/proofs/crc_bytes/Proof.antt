@@ -8,18 +8,18 @@ use Rattle.check_crc.proofs.Steps.{byte_turn, bytes_end}
 use Rattle.check_crc.proofs.crc_bytes.Statement.{statement}
 use Rattle.check_crc.proofs.crc_bytes.Tie as tie
 
-abbrev invariant-loop : tie.invariant-loop
-invariant-loop start s c₀ i₀ c i = (i ≤ length s) × (crc_of c (drop i s) ≡ crc_of start s)
+abbrev invariant-loop-i : tie.invariant-loop-i
+invariant-loop-i start s c₀ i₀ c i = (i ≤ length s) × (crc_of c (drop i s) ≡ crc_of start s)
 
-abbrev decreases-loop : tie.decreases-loop
-decreases-loop start s c₀ i₀ c i = length s - i
+abbrev decreases-loop-i : tie.decreases-loop-i
+decreases-loop-i start s c₀ i₀ c i = length s - i
 
 pub crc_bytes_spec : {M : Type 1} → statement M
 crc_bytes_spec =
     tie.close
     (tie.spec
-    invariant-loop
-    decreases-loop
+    invariant-loop-i
+    decreases-loop-i
     (λ c. (search rules, refl))
     (λ c. search rules)
     (λ c κs. search rules)

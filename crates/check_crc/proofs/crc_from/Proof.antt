@@ -10,35 +10,35 @@ use Rattle.check_crc.proofs.Steps.{SoFar, Ready, from_start, from_turn, from_eig
 use Rattle.check_crc.proofs.crc_from.Statement.{statement}
 use Rattle.check_crc.proofs.crc_from.Tie as tie
 
-abbrev invariant-loop : tie.invariant-loop
-invariant-loop start s v₀ lacks₀ i₀ v lacks i = (i ≤ length s) × Ready (length s - i) v lacks × SoFar (crc_of start s) v lacks (drop i s)
+abbrev invariant-loop-i : tie.invariant-loop-i
+invariant-loop-i start s v₀ lacks₀ i₀ v lacks i = (i ≤ length s) × Ready (length s - i) v lacks × SoFar (crc_of start s) v lacks (drop i s)
 
-abbrev decreases-loop : tie.decreases-loop
-decreases-loop start s v₀ lacks₀ i₀ v lacks i = length s - i
+abbrev decreases-loop-i : tie.decreases-loop-i
+decreases-loop-i start s v₀ lacks₀ i₀ v lacks i = length s - i
 
-loop_again : tie.Need-loop-preserved invariant-loop decreases-loop
+loop_again : tie.Need-loop-i-preserved-then-s-i-ge15 invariant-loop-i decreases-loop-i
 loop_again c =
     let start = c.before.before.before.before in
-    let bytes : Bytes start.before.args.s.now = λ k. (start.shared-slice-known.given k).fits in
+    let bytes : Bytes start.before.args.s.now = λ k. (start.shared_slice_known-1.given k).fits in
     (search rules, inl (search rules), search (from_turn, bytes))
 
-loop_again_2 : tie.Need-loop-preserved-2 invariant-loop decreases-loop
+loop_again_2 : tie.Need-loop-i-preserved invariant-loop-i decreases-loop-i
 loop_again_2 c =
     let start = c.before.before.before.before.before in
-    let bytes : Bytes start.before.args.s.now = λ k. (start.shared-slice-known.given k).fits in
+    let bytes : Bytes start.before.args.s.now = λ k. (start.shared_slice_known-1.given k).fits in
     let turn = c.before.before.before in
-    let inv = turn.before.loop.invariant in
-    (search rules, inr (search rules, refl), from_eight _ _ _ _ _ start.before.args.s.now turn.before.loop.i bytes turn.loop-test.true c.before.word2.ensures inv.2 c.crc_word.ensures (search rules))
+    let inv = turn.before.loop-i.invariant in
+    (search rules, inr (search rules, refl), from_eight _ _ _ _ _ start.before.args.s.now turn.before.loop-i.i bytes turn.loop-i-test.true c.before.word-else-s-i-ge15.ensures inv.2 c.crc_word-v.ensures (search rules))
 
-returns : tie.Need-returns invariant-loop decreases-loop
+returns : tie.Need-returns invariant-loop-i decreases-loop-i
 returns c = search from_done
 
 pub crc_from_spec : {M : Type 1} → statement M
 crc_from_spec =
     tie.close
     (tie.spec
-    invariant-loop
-    decreases-loop
+    invariant-loop-i
+    decreases-loop-i
     (λ c. (search rules, inr (search rules, refl), search (from_start, rules)))
     (λ c. search rules)
     (λ c. search rules)

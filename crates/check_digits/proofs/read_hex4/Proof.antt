@@ -4,10 +4,10 @@ use borrow.Author.Rules.{rules}
 use Rattle.check_digits.proofs.read_hex4.Statement.{statement}
 use Rattle.check_digits.proofs.read_hex4.Tie as tie
 
-returns_2 : tie.Need-returns-2
+returns_2 : tie.Need-returns-then-bytes-at
 returns_2 c = search past_end
 
-returns_3 : tie.Need-returns-3
+returns_3 : tie.Need-returns
 returns_3 c = search four_read
 
 pub read_hex4_spec : {M : Type 1} → statement M

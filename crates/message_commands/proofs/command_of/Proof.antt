@@ -8,17 +8,17 @@ use borrow.Author.Rules.{rules}
 use Rattle.message_commands.proofs.command_of.Statement.{statement}
 use Rattle.message_commands.proofs.command_of.Tie as tie
 
-abbrev invariant-loop : tie.invariant-loop
-invariant-loop h k₀ k = (k ≤ 10) × (named (drop k headers) h ≡ named headers h)
+abbrev invariant-loop-k : tie.invariant-loop-k
+invariant-loop-k h k₀ k = (k ≤ 10) × (named (drop k headers) h ≡ named headers h)
 
-abbrev decreases-loop : tie.decreases-loop
-decreases-loop h k₀ k = 10 - k
+abbrev decreases-loop-k : tie.decreases-loop-k
+decreases-loop-k h k₀ k = 10 - k
 
-returns : tie.Need-returns invariant-loop decreases-loop
+returns : tie.Need-returns-then-same_bytes invariant-loop-k decreases-loop-k
 unfolding command_of
 returns c = search named_here
 
-returns_2 : tie.Need-returns-2 invariant-loop decreases-loop
+returns_2 : tie.Need-returns invariant-loop-k decreases-loop-k
 unfolding command_of
 returns_2 c = search none_named
 
@@ -26,8 +26,8 @@ pub command_of_spec : {M : Type 1} → statement M
 command_of_spec =
     tie.close
     (tie.spec
-    invariant-loop
-    decreases-loop
+    invariant-loop-k
+    decreases-loop-k
     (λ c. (search rules, refl))
     (λ c κs. search rules)
     (λ c. search rules)

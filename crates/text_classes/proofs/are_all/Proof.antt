@@ -9,17 +9,17 @@ use borrow.Author.Rules.{rules}
 use Rattle.text_classes.proofs.are_all.Statement.{statement}
 use Rattle.text_classes.proofs.are_all.Tie as tie
 
-abbrev invariant-loop : tie.invariant-loop
-invariant-loop class s i₀ i = (i ≤ length s) × (all_of (is_of class) (drop i s) ≡ all_of (is_of class) s)
+abbrev invariant-loop-i : tie.invariant-loop-i
+invariant-loop-i class s i₀ i = (i ≤ length s) × (all_of (is_of class) (drop i s) ≡ all_of (is_of class) s)
 
-abbrev decreases-loop : tie.decreases-loop
-decreases-loop class s i₀ i = length s - i
+abbrev decreases-loop-i : tie.decreases-loop-i
+decreases-loop-i class s i₀ i = length s - i
 
-returns : tie.Need-returns invariant-loop decreases-loop
+returns : tie.Need-returns-then-not-is_of invariant-loop-i decreases-loop-i
 unfolding are_all
 returns c = search are_stopped
 
-returns_2 : tie.Need-returns-2 invariant-loop decreases-loop
+returns_2 : tie.Need-returns invariant-loop-i decreases-loop-i
 unfolding are_all
 returns_2 c = search are_ended
 
@@ -27,8 +27,8 @@ pub are_all_spec : {M : Type 1} → statement M
 are_all_spec =
     tie.close
     (tie.spec
-    invariant-loop
-    decreases-loop
+    invariant-loop-i
+    decreases-loop-i
     (λ c. (search rules, refl))
     (λ c. search rules)
     (λ c κs. search rules)

@@ -10,21 +10,21 @@ use borrow.Author.Rules.{rules}
 use Rattle.text_classes.proofs.are_all_long.Statement.{statement}
 use Rattle.text_classes.proofs.are_all_long.Tie as tie
 
-abbrev invariant-loop : tie.invariant-loop
-invariant-loop class s good₀ j₀ good j = (j ≤ length s) × ((good && all_of (is_of class) (drop j s)) ≡ are_all class s)
+abbrev invariant-loop-j : tie.invariant-loop-j
+invariant-loop-j class s good₀ j₀ good j = (j ≤ length s) × ((good && all_of (is_of class) (drop j s)) ≡ are_all class s)
 
-abbrev decreases-loop : tie.decreases-loop
-decreases-loop class s good₀ j₀ good j = length s - j
+abbrev decreases-loop-j : tie.decreases-loop-j
+decreases-loop-j class s good₀ j₀ good j = length s - j
 
-loop_again : tie.Need-loop-preserved invariant-loop decreases-loop
+loop_again : tie.Need-loop-j-preserved invariant-loop-j decreases-loop-j
 loop_again c = (search rules, search every_turn)
 
 pub are_all_long_spec : {M : Type 1} → statement M
 are_all_long_spec =
     tie.close
     (tie.spec
-    invariant-loop
-    decreases-loop
+    invariant-loop-j
+    decreases-loop-j
     (λ c. (search rules, search every_whole))
     (λ c. search rules)
     (λ c κs. search rules)

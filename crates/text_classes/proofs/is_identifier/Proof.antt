@@ -4,10 +4,10 @@ use borrow.Author.Rules.{rules}
 use Rattle.text_classes.proofs.is_identifier.Statement.{statement}
 use Rattle.text_classes.proofs.is_identifier.Tie as tie
 
-returns_2 : tie.Need-returns-2
+returns_2 : tie.Need-returns-then-name-gt40
 returns_2 c = search long_name_lem
 
-returns_3 : tie.Need-returns-3
+returns_3 : tie.Need-returns-then-not-is_alphanumeric
 returns_3 c = search bad_start
 
 pub is_identifier_spec : {M : Type 1} → statement M

@@ -8,33 +8,33 @@ use Rattle.text_decimal_writer.proofs.TurnLaws.{Told, told_start, told_end, few_
 use Rattle.text_decimal_writer.proofs.put_digits.Statement.{statement}
 use Rattle.text_decimal_writer.proofs.put_digits.Tie as tie
 
-abbrev invariant-loop : tie.invariant-loop
-invariant-loop dst₀ at v k powers end₀ rest₀ i₀ dst end rest i = (20 - k ≤ i) × (i ≤ 20) × (length dst ≡ length dst₀) × Told k v at (20 - i) dst₀ dst end rest
+abbrev invariant-loop-i : tie.invariant-loop-i
+invariant-loop-i dst₀ at v k powers end₀ rest₀ i₀ dst end rest i = (20 - k ≤ i) × (i ≤ 20) × (length dst ≡ length dst₀) × Told k v at (20 - i) dst₀ dst end rest
 
-abbrev decreases-loop : tie.decreases-loop
-decreases-loop dst₀ at v k powers end₀ rest₀ i₀ dst end rest i = 20 - i
+abbrev decreases-loop-i : tie.decreases-loop-i
+decreases-loop-i dst₀ at v k powers end₀ rest₀ i₀ dst end rest i = 20 - i
 
-loop_again : tie.Need-loop-preserved invariant-loop decreases-loop
+loop_again : tie.Need-loop-i-preserved invariant-loop-i decreases-loop-i
 loop_again c =
     let h = c.before.has_digit.ensures in
     let turn = c.before.before in
-    let l = turn.loop-test.true in
-    let inv = turn.before.loop.invariant in
-    let table = turn.before.before.powers_of_ten.ensures in
+    let l = turn.loop-i-test.true in
+    let inv = turn.before.loop-i.invariant in
+    let table = turn.before.before.powers_of_ten-powers.ensures in
     ⊎_elim
     (λ w. (search rules, search rules, rw w.7 (search rules), rw (w.7, w.8, w.9) (told_next _ _ _ _ _ _ _ _ inv.3 inv.0 l _ table (search rules) _ h _ _ w.1.ensures.0 w.1.ensures.1.0 w.0.taken w.4.ensures)))
     (λ w. (search rules, search rules, rw w.1 inv.2, rw (w.1, w.2, w.3) (told_passed _ _ _ _ _ _ _ _ inv.3 inv.0 l _ table (search rules) _ h w.0.left)))
-    c.if1.branch
+    c.if-has_digit.branch
 
-returns : tie.Need-returns invariant-loop decreases-loop
+returns : tie.Need-returns invariant-loop-i decreases-loop-i
 returns c = search told_end
 
 pub put_digits_spec : {M : Type 1} → statement M
 put_digits_spec =
     tie.close
     (tie.spec
-    invariant-loop
-    decreases-loop
+    invariant-loop-i
+    decreases-loop-i
     (λ c κs. search rules)
     (λ c. search rules)
     (λ c. (search rules, search rules, refl, search told_start))

@@ -5,7 +5,7 @@ use Rattle.text_decimal_writer.proofs.DigitLaws.{digits_short}
 use Rattle.text_decimal_writer.proofs.put_long.Statement.{statement}
 use Rattle.text_decimal_writer.proofs.put_long.Tie as tie
 
-fits : tie.Need-put-digits-requires
+fits : tie.Need-put_digits-requires
 unfolding long_bytes
 fits c κs = (search rules, search rules, search rules)
 

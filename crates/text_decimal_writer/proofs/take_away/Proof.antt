@@ -8,26 +8,26 @@ use Rattle.text_decimal_writer.proofs.TakeLaws.{went_sum, went_less, stayed_less
 use Rattle.text_decimal_writer.proofs.take_away.Statement.{statement}
 use Rattle.text_decimal_writer.proofs.take_away.Tie as tie
 
-abbrev invariant-loop : tie.invariant-loop
-invariant-loop v p times₀ rest₀ i₀ times rest i = (i ≤ 9) × (times ≤ i) × (times * p + rest ≡ v) × (rest < (10 - i) * p)
+abbrev invariant-loop-i : tie.invariant-loop-i
+invariant-loop-i v p times₀ rest₀ i₀ times rest i = (i ≤ 9) × (times ≤ i) × (times * p + rest ≡ v) × (rest < (10 - i) * p)
 
-abbrev decreases-loop : tie.decreases-loop
-decreases-loop v p times₀ rest₀ i₀ times rest i = 9 - i
+abbrev decreases-loop-i : tie.decreases-loop-i
+decreases-loop-i v p times₀ rest₀ i₀ times rest i = 9 - i
 
-loop_again : tie.Need-loop-preserved invariant-loop decreases-loop
+loop_again : tie.Need-loop-i-preserved invariant-loop-i decreases-loop-i
 loop_again c =
-    let inv = c.before.before.loop.invariant in
+    let inv = c.before.before.loop-i.invariant in
     ⊎_elim
     (λ w. (search rules, omega (arith, inv.1, w.1), rw (w.1, w.2) (went_sum _ _ _ _ _ inv.2 inv.3 (search rules) w.0.taken), rw w.2 (went_less _ _ _ _ _ inv.2 inv.3 (search rules) w.0.taken)))
     (λ w. (search rules, omega (arith, inv.1, w.1), rw (w.1, w.2) inv.2, rw w.2 (stayed_less _ _ _ _ _ inv.2 inv.3 (search rules) w.0.left)))
-    c.if1.branch
+    c.if-p-rest.branch
 
 pub take_away_spec : {M : Type 1} → statement M
 take_away_spec =
     tie.close
     (tie.spec
-    invariant-loop
-    decreases-loop
+    invariant-loop-i
+    decreases-loop-i
     (λ c. (search rules, search rules, search rules, search rules))
     (λ c. search rules)
     (λ c. search rules)

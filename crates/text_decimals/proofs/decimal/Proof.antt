@@ -9,27 +9,27 @@ use borrow.Author.Rules.{rules}
 use Rattle.text_decimals.proofs.decimal.Statement.{statement}
 use Rattle.text_decimals.proofs.decimal.Tie as tie
 
-abbrev invariant-loop : tie.invariant-loop
-invariant-loop s v₀ i₀ v i = (i ≤ length s) × (dec_from v (drop i s) ≡ dec_from 0 s) × (v + 23 ≤ 23 * 10 ^ i)
+abbrev invariant-loop-i : tie.invariant-loop-i
+invariant-loop-i s v₀ i₀ v i = (i ≤ length s) × (dec_from v (drop i s) ≡ dec_from 0 s) × (v + 23 ≤ 23 * 10 ^ i)
 
-abbrev decreases-loop : tie.decreases-loop
-decreases-loop s v₀ i₀ v i = length s - i
+abbrev decreases-loop-i : tie.decreases-loop-i
+decreases-loop-i s v₀ i₀ v i = length s - i
 
-loop_again : tie.Need-loop-preserved invariant-loop decreases-loop
-loop_again c = let l = c.before.before.before in let s = l.before.before.args.digits.now in (search rules, search dec_turn, rw c.digit_value.ensures (dec_room l.loop.v l.loop.i (get_or s l.loop.i 0) l.loop.invariant.2 (omega (arith, c.before.shared-slice-known2.given l.loop.i))))
+loop_again : tie.Need-loop-i-preserved invariant-loop-i decreases-loop-i
+loop_again c = let l = c.before.before.before in let s = l.before.before.args.digits.now in (search rules, search dec_turn, rw c.digit_value.ensures (dec_room l.loop-i.v l.loop-i.i (get_or s l.loop-i.i 0) l.loop-i.invariant.2 (omega (arith, c.before.shared_slice_known-in-loop-i-1.given l.loop-i.i))))
 
 pub decimal_spec : {M : Type 1} → statement M
 decimal_spec =
     tie.close
     (tie.spec
-    invariant-loop
-    decreases-loop
+    invariant-loop-i
+    decreases-loop-i
     (λ c. (search rules, refl, search rules))
-    (λ c. let l = c.before in omega (arith, dec_fits l.loop.v l.loop.i l.loop.invariant.2 (search rules)))
+    (λ c. let l = c.before in omega (arith, dec_fits l.loop-i.v l.loop-i.i l.loop-i.invariant.2 (search rules)))
     (λ c. search rules)
     (λ c κs. search rules)
-    (λ c. let l = c.before.before.before in omega (arith, dec_fits l.loop.v l.loop.i l.loop.invariant.2 (search rules), c.before.shared-slice-known2.given l.loop.i))
+    (λ c. let l = c.before.before.before in omega (arith, dec_fits l.loop-i.v l.loop-i.i l.loop-i.invariant.2 (search rules), c.before.shared_slice_known-in-loop-i-1.given l.loop-i.i))
     (λ c. search rules)
     (λ c. search rules)
     loop_again
-    (λ c. let l = c.before in (search dec_ended, dec_small l.loop.v l.loop.i l.loop.invariant.2 (search rules))))
+    (λ c. let l = c.before in (search dec_ended, dec_small l.loop-i.v l.loop-i.i l.loop-i.invariant.2 (search rules))))

@@ -4,7 +4,7 @@ use borrow.Author.Rules.{rules}
 use Rattle.text_decimals.proofs.is_number.Statement.{statement}
 use Rattle.text_decimals.proofs.is_number.Tie as tie
 
-returns_6 : tie.Need-returns-6
+returns_6 : tie.Need-returns-then-high-x
 returns_6 c = search above
 
 pub is_number_spec : {M : Type 1} → statement M

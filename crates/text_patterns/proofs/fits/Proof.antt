@@ -9,18 +9,18 @@ use borrow.Author.Rules.{rules}
 use Rattle.text_patterns.proofs.fits.Statement.{statement}
 use Rattle.text_patterns.proofs.fits.Tie as tie
 
-abbrev invariant-loop : tie.invariant-loop
-invariant-loop s at pattern good₀ i₀ good i = (at + length pattern ≤ length s) × (i ≤ length pattern) × ((good && fits (drop i pattern) (drop (at + i) s)) ≡ fits pattern (drop at s))
+abbrev invariant-loop-i : tie.invariant-loop-i
+invariant-loop-i s at pattern good₀ i₀ good i = (at + length pattern ≤ length s) × (i ≤ length pattern) × ((good && fits (drop i pattern) (drop (at + i) s)) ≡ fits pattern (drop at s))
 
-abbrev decreases-loop : tie.decreases-loop
-decreases-loop s at pattern good₀ i₀ good i = length pattern - i
+abbrev decreases-loop-i : tie.decreases-loop-i
+decreases-loop-i s at pattern good₀ i₀ good i = length pattern - i
 
 pub fits_spec : {M : Type 1} → statement M
 fits_spec =
     tie.close
     (tie.spec
-    invariant-loop
-    decreases-loop
+    invariant-loop-i
+    decreases-loop-i
     (λ c. (search rules, search rules, search fits_whole))
     (λ c. search rules)
     (λ c. search rules)
