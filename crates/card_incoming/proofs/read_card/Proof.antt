@@ -12,14 +12,14 @@ use borrow.Author.Rules.{rules}
 use Rattle.card_incoming.proofs.read_card.Statement.{statement}
 use Rattle.card_incoming.proofs.read_card.Tie as tie
 
-abbrev invariant-loop : tie.invariant-loop
-invariant-loop card read₀ at₀ last₀ read at last = (at ≤ length card) × (is_card_from last (drop at card) ≡ is_card card) × ReadTo card at last read
+abbrev invariant-loop-at : tie.invariant-loop-at
+invariant-loop-at card read₀ at₀ last₀ read at last = (at ≤ length card) × (is_card_from last (drop at card) ≡ is_card card) × ReadTo card at last read
 
-abbrev decreases-loop : tie.decreases-loop
-decreases-loop card read₀ at₀ last₀ read at last = length card - at
+abbrev decreases-loop-at : tie.decreases-loop-at
+decreases-loop-at card read₀ at₀ last₀ read at last = length card - at
 
 -- a turn: a search of all fields breaks off here, so the facts are given
-loop_again : tie.Need-loop-preserved invariant-loop decreases-loop
+loop_again : tie.Need-loop-preserved invariant-loop-at decreases-loop-at
 loop_again c =
     let f = c.before.before in
     let i = f.before.before in
@@ -44,8 +44,8 @@ pub read_card_spec : {M : Type 1} → statement M
 read_card_spec =
     tie.close
     (tie.spec
-    invariant-loop
-    decreases-loop
+    invariant-loop-at
+    decreases-loop-at
     (λ c. (search rules, search card_from, search nothing_read))
     (λ c κs. search rules)
     (λ c. (search (refused, card_open), search no_values))

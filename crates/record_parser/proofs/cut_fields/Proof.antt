@@ -8,19 +8,19 @@ use Rattle.record_parser.proofs.CutLaws.{Cut, cut_starts, too_few, cut_turn, all
 use Rattle.record_parser.proofs.cut_fields.Statement.{statement}
 use Rattle.record_parser.proofs.cut_fields.Tie as tie
 
-abbrev invariant-loop : tie.invariant-loop
-invariant-loop delimiter count body fields₀ at₀ n₀ fields at n =
+abbrev invariant-loop-n : tie.invariant-loop-n
+invariant-loop-n delimiter count body fields₀ at₀ n₀ fields at n =
     (count ≤ 5) × (length fields ≡ 6) × (at ≤ length body) × (n ≤ count + 1) × Cut delimiter body fields at n
 
-abbrev decreases-loop : tie.decreases-loop
-decreases-loop delimiter count body fields₀ at₀ n₀ fields at n = count + 1 - n
+abbrev decreases-loop-n : tie.decreases-loop-n
+decreases-loop-n delimiter count body fields₀ at₀ n₀ fields at n = count + 1 - n
 
 pub cut_fields_spec : {M : Type 1} → statement M
 cut_fields_spec =
     tie.close
     (tie.spec
-    invariant-loop
-    decreases-loop
+    invariant-loop-n
+    decreases-loop-n
     (λ c. (search rules, search rules, search rules, search rules, search cut_starts))
     (λ c κs. search rules)
     (λ c. (search too_few, λ e. nope (cc)))

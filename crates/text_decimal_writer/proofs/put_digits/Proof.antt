@@ -22,9 +22,9 @@ loop_again c =
     let inv = turn.before.loop-i.invariant in
     let table = turn.before.before.powers_of_ten-powers.ensures in
     ⊎_elim
-    (λ w. (search rules, search rules, rw w.7 (search rules), rw (w.7, w.8, w.9) (told_next _ _ _ _ _ _ _ _ inv.3 inv.0 l _ table (search rules) _ h _ _ w.1.ensures.0 w.1.ensures.1.0 w.0.taken w.4.ensures)))
-    (λ w. (search rules, search rules, rw w.1 inv.2, rw (w.1, w.2, w.3) (told_passed _ _ _ _ _ _ _ _ inv.3 inv.0 l _ table (search rules) _ h w.0.left)))
-    c.if-has_digit.branch
+    (λ w. (search rules, search rules, rw w.dst-is (search rules), rw (w.dst-is, w.end-is, w.rest-is) (told_next _ _ _ _ _ _ _ _ inv.3 inv.0 l _ table (search rules) _ h _ _ w.take_away-taken.ensures.0 w.take_away-taken.ensures.1.0 w.if-has_digit.true w.put_byte-end.ensures)))
+    (λ w. (search rules, search rules, rw w.dst-is inv.2, rw (w.dst-is, w.end-is, w.rest-is) (told_passed _ _ _ _ _ _ _ _ inv.3 inv.0 l _ table (search rules) _ h w.if-has_digit.false)))
+    c.if-has_digit.branch-raw
 
 returns : tie.Need-returns invariant-loop-i decreases-loop-i
 returns c = search told_end

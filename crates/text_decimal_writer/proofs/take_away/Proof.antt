@@ -18,9 +18,9 @@ loop_again : tie.Need-loop-i-preserved invariant-loop-i decreases-loop-i
 loop_again c =
     let inv = c.before.before.loop-i.invariant in
     ⊎_elim
-    (λ w. (search rules, omega (arith, inv.1, w.1), rw (w.1, w.2) (went_sum _ _ _ _ _ inv.2 inv.3 (search rules) w.0.taken), rw w.2 (went_less _ _ _ _ _ inv.2 inv.3 (search rules) w.0.taken)))
-    (λ w. (search rules, omega (arith, inv.1, w.1), rw (w.1, w.2) inv.2, rw w.2 (stayed_less _ _ _ _ _ inv.2 inv.3 (search rules) w.0.left)))
-    c.if-p-rest.branch
+    (λ w. (search rules, omega (arith, inv.1, w.times-is), rw (w.times-is, w.rest-is) (went_sum _ _ _ _ _ inv.2 inv.3 (search rules) w.if-p-rest.true), rw w.rest-is (went_less _ _ _ _ _ inv.2 inv.3 (search rules) w.if-p-rest.true)))
+    (λ w. (search rules, omega (arith, inv.1, w.times-is), rw (w.times-is, w.rest-is) inv.2, rw w.rest-is (stayed_less _ _ _ _ _ inv.2 inv.3 (search rules) w.if-p-rest.false)))
+    c.if-p-rest.branch-raw
 
 pub take_away_spec : {M : Type 1} → statement M
 take_away_spec =
