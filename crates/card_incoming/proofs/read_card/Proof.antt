@@ -19,7 +19,7 @@ abbrev decreases-loop-at : tie.decreases-loop-at
 decreases-loop-at card read₀ at₀ last₀ read at last = length card - at
 
 -- a turn: a search of all fields breaks off here, so the facts are given
-loop_again : tie.Need-loop-preserved invariant-loop-at decreases-loop-at
+loop_again : tie.Need-loop-at-preserved invariant-loop-at decreases-loop-at
 loop_again c =
     let f = c.before.before in
     let i = f.before.before in
