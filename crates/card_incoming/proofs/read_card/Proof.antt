@@ -27,17 +27,17 @@ loop_again c =
     let g = n.before.before in
     let e = g.before in
     let l = e.before.before in
-    let p = e.piece_end.ensures.0 in
-    let h = g.if1.false in
-    let q = n.name_of.ensures in
-    let o = i.before.if2.false in
-    let d = i.index_of.ensures in (
+    let p = e.piece_end-end.ensures.0 in
+    let h = g.if-card-end.false in
+    let q = n.name_of-arg-1.ensures in
+    let o = i.before.if-name-last.false in
+    let d = i.index_of-index.ensures in (
       search rules,
-      card_turn _ _ _ _ l.loop.invariant.1 _ p h _ q o _ d _ f.fits_at.ensures c.before.if3.false,
+      card_turn _ _ _ _ l.loop-at.invariant.1 _ p h _ q o _ d _ f.fits_at.ensures c.before.if-index-lt-ROWS.false,
       ⊎_elim
-          (λ u. subst (ReadTo _ _ _) (sym u.1) (read_known _ _ _ _ p h _ q o _ l.loop.invariant.2 _ d u.0.taken))
-          (λ u. subst (ReadTo _ _ _) (sym u.1) (read_unknown _ _ _ _ p h _ q o _ l.loop.invariant.2 _ d u.0.left))
-          c.if4.branch,
+          (λ u. subst (ReadTo _ _ _) (sym u.1) (read_known _ _ _ _ p h _ q o _ l.loop-at.invariant.2 _ d u.0.taken))
+          (λ u. subst (ReadTo _ _ _) (sym u.1) (read_unknown _ _ _ _ p h _ q o _ l.loop-at.invariant.2 _ d u.0.left))
+          c.if-not-fits_at.branch,
     )
 
 pub read_card_spec : {M : Type 1} → statement M
