@@ -24,7 +24,7 @@ returns_5 c =
     let d = c.before.before.before.before.before.before in
     let l = d.before.before in
     let e = l.before.before.before.before.before.before in
-    (number_out _ e.requires.1 _ _ _ _ _ l.lesser-limit.ensures.1 _ d.digit_count.ensures.0 _ c.before.is_number.ensures c.if5.true, search rules)
+    (number_out _ e.requires.1 _ _ _ _ _ l.lesser-limit.ensures.1 _ d.digit_count.ensures.0 _ c.before.is_number.ensures c.if-not-is_number.true-raw, search rules)
 
 returns_6 : tie.Need-returns
 returns_6 c =
@@ -32,7 +32,7 @@ returns_6 c =
     let d = i.before.before.before in
     let l = d.before.before in
     let e = l.before.before.before.before.before.before in (
-      number_stands _ e.requires.1 _ _ _ _ _ l.lesser-limit.ensures.1 _ d.digit_count.ensures.0 _ c.before.is_number.ensures _ l.before.before.name_of.ensures l.before.if-name_of-name.false e.requires.2 i.before.before.if-s-end.false i.if-s-end-ne59.false c.if5.false,
+      number_stands _ e.requires.1 _ _ _ _ _ l.lesser-limit.ensures.1 _ d.digit_count.ensures.0 _ c.before.is_number.ensures _ l.before.before.name_of.ensures l.before.if-name_of-name.false e.requires.2 i.before.before.if-s-end.false i.if-s-end-ne59.false c.if-not-is_number.false-raw,
       search rules,
     )
 
