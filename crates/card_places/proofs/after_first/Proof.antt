@@ -11,7 +11,6 @@ after_first_spec =
     (λ c. search rules)
     (λ c. (search first_cases, search rules))
     (λ c. search rules)
-    (λ c κs. search rules)
     (λ c. search rules)
     (λ c. (search first_cases, search rules))
     (λ c. search rules)

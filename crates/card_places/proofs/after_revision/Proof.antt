@@ -9,7 +9,6 @@ after_revision_spec =
     tie.close
     (tie.spec
     (λ c. search rules)
-    (λ c κs. search rules)
     (λ c. search rules)
     (λ c. (search revision_cases, search rules))
     (λ c. search rules)

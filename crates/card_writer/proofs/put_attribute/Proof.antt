@@ -5,7 +5,7 @@ use Rattle.card_writer.proofs.put_attribute.Statement.{statement}
 use Rattle.card_writer.proofs.put_attribute.Tie as tie
 
 -- this one has a name, so that it is judged by itself, and not only where what is called is proved
-returns : tie.Need-returns
+returns : tie.Need-returns-then-not-has_entry
 returns c = search left_out
 
 pub put_attribute_spec : {M : Type 1} → statement M

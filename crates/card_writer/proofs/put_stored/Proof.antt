@@ -15,29 +15,29 @@ use borrow.Author.Rules.{rules}
 use Rattle.card_writer.proofs.put_stored.Statement.{statement}
 use Rattle.card_writer.proofs.put_stored.Tie as tie
 
-abbrev invariant-loop : tie.invariant-loop
-invariant-loop dst₀ card check slot values default zero at₀ k₀ dst at k =
+abbrev invariant-loop-k : tie.invariant-loop-k
+invariant-loop-k dst₀ card check slot values default zero at₀ k₀ dst at k =
     let own = load_values check slot in
     (k ≤ rows) × (length dst ≡ length dst₀) × (default ≡ default_card) × (zero ≡ text "0") × AreValues values card
     × (at + length (written card own (drop k table)) ≡ length (stored_card card own))
     × (sets dst at (written card own (drop k table)) ≡ sets dst₀ 0 (stored_card card own))
 
-abbrev decreases-loop : tie.decreases-loop
-decreases-loop dst₀ card check slot values default zero at₀ k₀ dst at k = rows - k
+abbrev decreases-loop-k : tie.decreases-loop-k
+decreases-loop-k dst₀ card check slot values default zero at₀ k₀ dst at k = rows - k
 
-loop_holds : tie.Need-loop-init invariant-loop decreases-loop
+loop_holds : tie.Need-loop-k-init invariant-loop-k decreases-loop-k
 unfolding written stored_card default_card
 loop_holds c = (search rules, refl, refl, refl, search rules, search rules, refl)
 
 -- a turn: a search does not find the attribute that was written, so the facts are given
-loop_again : tie.Need-loop-preserved invariant-loop decreases-loop
+loop_again : tie.Need-loop-k-preserved invariant-loop-k decreases-loop-k
 loop_again c =
     let p = c.before.before in
     let r = p.before.before.before.before.before in
-    let l = r.before.before.loop in
+    let l = r.before.before.loop-k in
     let i = l.invariant in
-    let e = r.row.ensures in
-    let w = p.put_attribute.ensures in (
+    let e = r.row-a.ensures in
+    let w = c.put_attribute-at.ensures in (
       search rules,
       search rules,
       search rules,
@@ -51,8 +51,8 @@ pub put_stored_spec : {M : Type 1} → statement M
 put_stored_spec =
     tie.close
     (tie.spec
-    invariant-loop
-    decreases-loop
+    invariant-loop-k
+    decreases-loop-k
     loop_holds
     (λ c κs. search rules)
     (λ c. search rules)

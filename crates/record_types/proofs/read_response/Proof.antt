@@ -14,7 +14,6 @@ read_response_spec =
     tie.close
     (tie.spec
     (λ c. search rules)
-    (λ c κs. search rules)
     (λ c. (search chain, λ e. nope (cc)))
     (λ c. search rules)
     (λ c κs. search (field_fits bar 4, found_fields, rules))
