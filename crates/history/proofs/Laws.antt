@@ -60,10 +60,10 @@ none_stands a b g r zero s c p = let w = p.is in nope (cc)
 none_stands a b g r (suc i) s c p = let w = p.is in let k = get_d_none vacant b i in nope (cc)
 
 -- an accepted deletion of a slot leaves no key under it, and one of a register none in it
-kx_takes : (t t' : Tables) (s : List ℕ) → Step t (kx s ⇒ done) t' → (g r c : List ℕ) (n : ℕ) → ¬ StandsIn t' g r n s c
+kx_takes : (t : Tables) (s : List ℕ) (t' : Tables) → Step t (kx s ⇒ done) t' → (g r c : List ℕ) (n : ℕ) → ¬ StandsIn t' g r n s c
 unfolding drop_slot
-kx_takes t t' s (deletes_slot s' i a q) g r c zero h = let w = h.is in nope (cc)
-kx_takes t t' s (deletes_slot s' i a q) g r c (suc j) h = clash (same_self s) (drop_key_lem s (get_or t.registers j vacant) g r s c h.carries (rw drop_row at h.is)).1
+kx_takes t s t' (deletes_slot s' i a q) g r c zero h = let w = h.is in nope (cc)
+kx_takes t s t' (deletes_slot s' i a q) g r c (suc j) h = clash (same_self s) (drop_key_lem s (get_or t.registers j vacant) g r s c h.carries (rw drop_row at h.is)).1
 
 kd_takes : (t t' : Tables) (n : ℕ) → Step t (kd n ⇒ done) t' → (g r s c : List ℕ) → ¬ StandsIn t' g r n s c
 kd_takes t t' n (deletes_key i g' r' u d p q) g r s c h =
@@ -80,7 +80,7 @@ cleared t ι t' m σ g r n s c (inl l) h =
     let e = one_key t' (sound_step t ι t' m σ) g r n l.number s c l.slot l.card h (key_sets t ι t' m g r l.number l.slot l.card l.is) in
     let w = l.is in
     cc
-cleared t ι t' m σ g r n s c (inr (inl d)) h = absurd (kx_takes t t' s (rw d at m) g r c n h)
+cleared t ι t' m σ g r n s c (inr (inl d)) h = absurd (kx_takes t s t' (rw d at m) g r c n h)
 cleared t ι t' m σ g r n s c (inr (inr d)) h = absurd (kd_takes t t' n (rw d at m) g r s c h)
 
 -- an item closes the keys of s, or it does not
@@ -232,9 +232,9 @@ kf_ends : (t t' : Tables) (s : List ℕ) → Step t (kf s ⇒ done) t' → Sound
 unfolding finish
 kf_ends t t' s (closes s' i a o q) σ h = shuts t σ s i (used_within t.slots i s a q) (own a q) _ (λ w. nope (cc)) (record { row = h.row; is = h.is })
 
-kx_ends : (t t' : Tables) (s : List ℕ) → Step t (kx s ⇒ done) t' → Sound t → ¬ Open s t'
+kx_ends : (t : Tables) (s : List ℕ) (t' : Tables) → Step t (kx s ⇒ done) t' → Sound t → ¬ Open s t'
 unfolding drop_slot
-kx_ends t t' s (deletes_slot s' i a q) σ h = shuts t σ s i (used_within t.slots i s a q) (own a q) free (λ w. nope (cc)) (record { row = h.row; is = h.is })
+kx_ends t s t' (deletes_slot s' i a q) σ h = shuts t σ s i (used_within t.slots i s a q) (own a q) free (λ w. nope (cc)) (record { row = h.row; is = h.is })
 
 rs_ends : (t t' : Tables) (s : List ℕ) → Step t (rs ⇒ done) t' → ¬ Open s t'
 unfolding reset
@@ -243,7 +243,7 @@ rs_ends t t' s resets h = let w = (stop_used _ s loading (rw stop_row at h.is)).
 ended : (t : Tables) (ι : Item) (t' : Tables) → Step t ι t' → Sound t → (s : List ℕ) → Ends s ι → ¬ Open s t'
 ended t ι t' m σ s (closed e) = kf_ends t t' s (rw e at m) σ
 ended t ι t' m σ s (restarted e) = kc_ends t t' s (rw e at m) σ
-ended t ι t' m σ s (deleted e) = kx_ends t t' s (rw e at m) σ
+ended t ι t' m σ s (deleted e) = kx_ends t s t' (rw e at m) σ
 ended t ι t' m σ s (was_reset e) = rs_ends t t' s (rw e at m)
 
 -- a session that is open after a store: the store opened it, or it was open before

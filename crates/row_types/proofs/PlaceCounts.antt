@@ -1,22 +1,19 @@
 -- How many places the tables have: what owning them tells of their lists.
-use mathlib.Core.Path.{◌≡◌, refl, sym, ◌∙◌}
-use mathlib.Core.List.{List, [], ◌∷◌, map}
+use mathlib.Core.Path.{◌≡◌, refl}
+use mathlib.Core.List.{List, [], ◌∷◌}
 use Prim.Native.Nat.{ℕ, zero, suc, ◌<◌}
 use native.Mathlib.Omega.{arith}
-use lib.ListN.{length, get_or, length-map}
+use lib.ListN.{length, get_or}
 use mir.Val.{Val}
 use denote.Laws.{Is}
 use Rattle.row_types.specs.declared.Tables.{Tables}
 use Rattle.row_types.specs.contracts.Tables as T
 
-counted : {X Y : Type 0} (f : X → Y) (l : List X) (n : ℕ) → length (map f l) ≡ n → length l ≡ n
-counted f l n p = sym (length-map l f) ∙ p
-
 pub eight : (t : Tables) (vs : List Val) → Is T.the_row t vs → length t.slots ≡ 8
-eight t vs g = counted _ t.slots 8 g.1.1.0.1.0.1
+eight t vs g = g.1.1.0.1.0.1
 
 pub thirty_two : (t : Tables) (vs : List Val) → Is T.the_row t vs → length t.registers ≡ 32
-thirty_two t vs g = counted _ t.registers 32 g.1.1.1.0.1.0.1
+thirty_two t vs g = g.1.1.1.0.1.0.1
 
 -- a row within the places, whatever stands beyond them
 pub get_d_any : {A : Type 0} (l : List A) (k : ℕ) (d e : A) → k < length l → get_or l k d ≡ get_or l k e
