@@ -4,10 +4,10 @@ use borrow.Author.Rules.{rules}
 use Rattle.decide_counts.proofs.first_refusal.Statement.{statement}
 use Rattle.decide_counts.proofs.first_refusal.Tie as tie
 
-returns : tie.Need-returns
+returns : tie.Need-returns-then-not-are_counts
 returns c = search first_counts
 
-returns_2 : tie.Need-returns-2
+returns_2 : tie.Need-returns-then-room-lt1024
 returns_2 c = search first_room
 
 pub first_refusal_spec : {M : Type 1} → statement M

@@ -4,10 +4,10 @@ use borrow.Author.Rules.{rules}
 use Rattle.register_rows.proofs.is_zero_register.Statement.{statement}
 use Rattle.register_rows.proofs.is_zero_register.Tie as tie
 
-returns : tie.Need-returns
+returns : tie.Need-returns-then-row-ne0
 returns c = search marked
 
-returns_2 : tie.Need-returns-2
+returns_2 : tie.Need-returns
 returns_2 c = search unmarked
 
 pub is_zero_register_spec : {M : Type 1} → statement M

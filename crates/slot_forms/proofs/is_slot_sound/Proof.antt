@@ -4,7 +4,7 @@ use borrow.Author.Rules.{rules}
 use Rattle.slot_forms.proofs.is_slot_sound.Statement.{statement}
 use Rattle.slot_forms.proofs.is_slot_sound.Tie as tie
 
-returns_3 : tie.Need-returns-3
+returns_3 : tie.Need-returns-then-row-gt3
 returns_3 c = search no_state
 
 pub is_slot_sound_spec : {M : Type 1} → statement M

@@ -12,6 +12,5 @@ moved_slot_spec =
     (tie.spec
     (λ c. search rules)
     (λ c. search rules)
-    (λ c. search rules)
     (λ c κs. search rules)
     returns)

@@ -4,10 +4,10 @@ use borrow.Author.Rules.{rules}
 use Rattle.slot_tests.proofs.is_named.Statement.{statement}
 use Rattle.slot_tests.proofs.is_named.Tie as tie
 
-returns : tie.Need-returns
+returns : tie.Need-returns-then-has_state
 returns c = search free_not_named
 
-returns_2 : tie.Need-returns-2
+returns_2 : tie.Need-returns
 returns_2 c = search named
 
 pub is_named_spec : {M : Type 1} → statement M
