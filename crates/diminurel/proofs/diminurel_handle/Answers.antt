@@ -1,9 +1,7 @@
 -- What is promised over the tables that the rows are loaded into is promised over the rows: where the first two questions refuse, where a later refusal stores none, and where the tables are stored.
 use mathlib.Core.Bool.{not}
 use lib.Dec.{T, eqb, eqb→eq, not_T}
-use Rattle.std.proofs.Common.{rules, arith, ◌≡◌, ◌∙◌, ap, sym, ℕ, length}
-use Rattle.row_index.specs.Lent.{marked_rows}
-use Rattle.row_lending.specs.Tables.{overlay, each_with, with_mark}
+use Rattle.std.proofs.Common.{rules, ◌≡◌, ◌∙◌, sym, ℕ, length}
 use Rattle.row_lending.proofs.OverlayLaws.{both_put}
 use Rattle.entry_contracts.proofs.LentLaws.{refused_first, kept, stored}
 use Rattle.diminurel.proofs.diminurel_handle.Goals as goal
