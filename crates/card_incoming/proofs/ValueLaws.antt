@@ -71,7 +71,7 @@ none_noted s k h =
     let w : Noted s 0 0 n nowhere = record { within = (zero-le, zero-le); value = a_name s n (λ e. absurd (omega (arith, name_some k h))); later = λ l. refl } in
     rw (get_or-replicate rows k nowhere nowhere h) w
 
-pub nothing_read : (s : List ℕ) → ReadTo s 0 0 (record { in_form_lem = false; values = replicate rows nowhere })
+pub nothing_read : (s : List ℕ) → ReadTo s 0 0 (record { in_form = false; values = replicate rows nowhere })
 nothing_read s = record { not_yet = refl; long = refl; noted = none_noted s }
 
 -- the entry from `at` to e, of the name x
@@ -124,7 +124,7 @@ module _ (s : List ℕ) (at last e : ℕ) (p : e ≡ at + run (is_not 59) (drop 
             let i : k ≡ index → ⊥ = eqb-false k index c in
             rw (get_or-set_other values index k b nowhere i) (noted_before (name_at k) (get_or values k nowhere) (before k j) (other_name k j i))
 
-    pub read_known : index < rows → ReadTo s (e + 1) x (record { in_form_lem = read.in_form; values = set read.values index (record { start = at + 3; end = e }) })
+    pub read_known : index < rows → ReadTo s (e + 1) x (record { in_form = read.in_form; values = set read.values index (record { start = at + 3; end = e }) })
     read_known m = record { not_yet = w.not_yet; long = length-set values index _ ∙ w.long; noted = known m }
 
     -- and nothing where it is not

@@ -231,7 +231,7 @@ module _ (f : ℕ → List ℕ) where
     written = all_of_lem is_written t all_written
 
     in_form_lem : T (all_rows is_in_form (rows_of t))
-    in_form_lem = all_of_lem is_in_form t i
+    in_form = all_of_lem is_in_form t i
 
     pub value_short : (k : ℕ) (a : Attribute) (r : List Attribute) → drop k (rows_of t) ≡ a ∷ r → length (f (name a)) ≤ most (form a)
     value_short k a r e =

@@ -10,7 +10,7 @@ use Rattle.card_incoming.proofs.has_required.Tie as tie
 
 returns : tie.Need-returns
 unfolding table
-returns c = rw (and-true (not (eqb (get_or c.args.t1 12 nowhere).start 0)))
+returns c = rw (and-true (not (eqb (get_or c.args.values 12 nowhere).start 0)))
 
 pub has_required_spec : {M : Type 1} → statement M
 has_required_spec =

@@ -21,23 +21,17 @@ decreases-loop-at card read₀ at₀ last₀ read at last = length card - at
 -- a turn: a search of all fields breaks off here, so the facts are given
 loop_again : tie.Need-loop-at-preserved invariant-loop-at decreases-loop-at
 loop_again c =
-    let f = c.before.before in
-    let i = f.before.before in
-    let n = i.before.before in
-    let g = n.before.before in
-    let e = g.before in
-    let l = e.before.before in
-    let p = e.piece_end.ensures.0 in
-    let h = g.if1.false in
-    let q = n.name_of.ensures in
-    let o = i.before.if2.false in
-    let d = i.index_of.ensures in (
+    let p = c.piece_end-end.ensures.0 in
+    let h = c.if-card-end.false in
+    let q = c.name_of-name.ensures in
+    let o = c.if-name-last.false in
+    let d = c.index_of-index.ensures in (
       search rules,
-      card_turn _ _ _ _ l.loop.invariant.1 _ p h _ q o _ d _ f.fits_at.ensures c.before.if3.false,
+      card_turn _ _ _ _ c.loop-at.invariant.1 _ p h _ q o _ d _ c.fits_at.ensures c.if-not-fits_at.false-raw,
       ⊎_elim
-          (λ u. subst (ReadTo _ _ _) (sym u.1) (read_known _ _ _ _ p h _ q o _ l.loop.invariant.2 _ d u.0.taken))
-          (λ u. subst (ReadTo _ _ _) (sym u.1) (read_unknown _ _ _ _ p h _ q o _ l.loop.invariant.2 _ d u.0.left))
-          c.if4.branch,
+          (λ u. subst (ReadTo _ _ _) (sym u.read-is) (read_known _ _ _ _ p h _ q o _ c.loop-at.invariant.2 _ d u.if-index-lt-ROWS.true))
+          (λ u. subst (ReadTo _ _ _) (sym u.read-is) (read_unknown _ _ _ _ p h _ q o _ c.loop-at.invariant.2 _ d u.if-index-lt-ROWS.false))
+          c.if-index-lt-ROWS.branch-raw,
     )
 
 pub read_card_spec : {M : Type 1} → statement M

@@ -6,25 +6,20 @@ use Rattle.card_steps.proofs.after_any.Statement.{statement}
 use Rattle.card_steps.proofs.after_any.Tie as tie
 
 -- the value starts within the entry; from here on a search of all fields breaks off, so the facts are given
-sub_in_form : tie.Need-overflow-sub-in-form
+sub_in_form : tie.Need-slice_bounds-in_form-count
 sub_in_form c =
-    let b = c.before.before.before in
-    omega (arith, any_room _ _ _ _ b.before.piece_end.ensures.0 b.if2.false _ c.before.name_of.ensures c.if3.false b.before.before.before.before.requires.1)
+    omega (arith, any_room _ _ _ _ c.piece_end-end.ensures.0 c.if-s-end.false _ c.name_of.ensures c.if-name_of-name.false c.requires.1)
 
-part_in_form_start : tie.Need-slice-bounds-in-form-start
+part_in_form_start : tie.Need-slice_bounds-in_form-start
 part_in_form_start c = sub_in_form c
 
-returns_4 : tie.Need-returns-4
+returns_4 : tie.Need-returns-then-not-in_form
 returns_4 c =
-    let n = c.before.before.before in
-    let e = n.before.before.before in
-    (any_out _ _ _ _ e.before.before.if1.false _ e.before.piece_end.ensures.0 e.if2.false _ n.before.name_of.ensures n.if3.false _ c.before.in_form.ensures c.if4.true, search rules)
+    (any_out _ _ _ _ c.if-s-at.false _ c.piece_end-end.ensures.0 c.if-s-end.false _ c.name_of.ensures c.if-name_of-name.false _ c.in_form.ensures c.if-not-in_form.true-raw, search rules)
 
-returns_5 : tie.Need-returns-5
+returns_5 : tie.Need-returns
 returns_5 c =
-    let n = c.before.before.before in
-    let e = n.before.before.before in
-    (any_in _ _ _ _ e.before.before.if1.false _ e.before.piece_end.ensures.0 e.if2.false _ n.before.name_of.ensures n.if3.false _ c.before.in_form.ensures c.if4.false, search rules)
+    (any_in _ _ _ _ c.if-s-at.false _ c.piece_end-end.ensures.0 c.if-s-end.false _ c.name_of.ensures c.if-name_of-name.false _ c.in_form.ensures c.if-not-in_form.false-raw, search rules)
 
 pub after_any_spec : {M : Type 1} → statement M
 after_any_spec =

@@ -5,34 +5,34 @@ use Rattle.card_steps.proofs.after_number.Statement.{statement}
 use Rattle.card_steps.proofs.after_number.Tie as tie
 
 -- from here on a search of all fields breaks off, so the facts are given
-returns_3 : tie.Need-returns-3
+returns_3 : tie.Need-returns-then-s-end
 returns_3 c =
     let d = c.before in
     let l = d.before.before in
     let e = l.before.before.before.before.before.before in
-    (number_open _ e.requires.1 _ _ _ _ _ l.lesser.ensures.1 _ d.digit_count.ensures.0 c.if3.true, search rules)
+    (number_open _ e.requires.1 _ _ _ _ _ l.lesser-limit.ensures.1 _ d.digit_count.ensures.0 c.if-s-end.true, search rules)
 
-returns_4 : tie.Need-returns-4
+returns_4 : tie.Need-returns-then-s-end-ne59
 returns_4 c =
     let d = c.before.before.before in
     let l = d.before.before in
     let e = l.before.before.before.before.before.before in
-    (number_unended _ e.requires.1 _ _ _ _ _ l.lesser.ensures.1 _ d.digit_count.ensures.0 c.if4.true, search rules)
+    (number_unended _ e.requires.1 _ _ _ _ _ l.lesser-limit.ensures.1 _ d.digit_count.ensures.0 c.if-s-end-ne59.true, search rules)
 
-returns_5 : tie.Need-returns-5
+returns_5 : tie.Need-returns-then-not-is_number
 returns_5 c =
     let d = c.before.before.before.before.before.before in
     let l = d.before.before in
     let e = l.before.before.before.before.before.before in
-    (number_out _ e.requires.1 _ _ _ _ _ l.lesser.ensures.1 _ d.digit_count.ensures.0 _ c.before.is_number.ensures c.if5.true, search rules)
+    (number_out _ e.requires.1 _ _ _ _ _ l.lesser-limit.ensures.1 _ d.digit_count.ensures.0 _ c.before.is_number.ensures c.if-not-is_number.true-raw, search rules)
 
-returns_6 : tie.Need-returns-6
+returns_6 : tie.Need-returns
 returns_6 c =
     let i = c.before.before.before in
     let d = i.before.before.before in
     let l = d.before.before in
     let e = l.before.before.before.before.before.before in (
-      number_stands _ e.requires.1 _ _ _ _ _ l.lesser.ensures.1 _ d.digit_count.ensures.0 _ c.before.is_number.ensures _ l.before.before.name_of.ensures l.before.if2.false e.requires.2 i.before.before.if3.false i.if4.false c.if5.false,
+      number_stands _ e.requires.1 _ _ _ _ _ l.lesser-limit.ensures.1 _ d.digit_count.ensures.0 _ c.before.is_number.ensures _ l.before.before.name_of.ensures l.before.if-name_of-name.false e.requires.2 i.before.before.if-s-end.false i.if-s-end-ne59.false c.if-not-is_number.false-raw,
       search rules,
     )
 

@@ -11,18 +11,18 @@ use borrow.Author.Rules.{rules}
 use Rattle.card_steps.proofs.digit_count.Statement.{statement}
 use Rattle.card_steps.proofs.digit_count.Tie as tie
 
-abbrev invariant-loop : tie.invariant-loop
-invariant-loop v i₀ i = (i ≤ length v) × (i + run (is_of Digit) (drop i v) ≡ run (is_of Digit) v)
+abbrev invariant-loop-i : tie.invariant-loop-i
+invariant-loop-i v i₀ i = (i ≤ length v) × (i + run (is_of Digit) (drop i v) ≡ run (is_of Digit) v)
 
-abbrev decreases-loop : tie.decreases-loop
-decreases-loop v i₀ i = length v - i
+abbrev decreases-loop-i : tie.decreases-loop-i
+decreases-loop-i v i₀ i = length v - i
 
 pub digit_count_spec : {M : Type 1} → statement M
 digit_count_spec =
     tie.close
     (tie.spec
-    invariant-loop
-    decreases-loop
+    invariant-loop-i
+    decreases-loop-i
     (λ c. search rules)
     (λ c. search rules)
     (λ c κs. search rules)
