@@ -50,7 +50,7 @@ pub use prog.Routine.{Routine}
 pub use prog.Wp.{Calls, Env, Heap, Loops, Tables, Wp, WpFn, after_block, after_seq, at_return}
 unfoldable pub use prog.Wp.{after_turn}
 pub use sound.WpLaws.{FmC, WpFn-mono, fm_of}
-pub use types.Kit.{!, Goal, Item, Post, Seq, Soaks, Sq, Step, ◌$◌, ◌∵◌, ◌⊛◌, any_q, at_ret, await, by, done, drop, feq_i, feq_l, fjoin, fjoin3, fpack, fpick, frame, fsplit, fsplit3, given, group, join, keep, lands, later, learn, move, pick, qed, raw, rewrite, runs, some, split, step, suffices, use0, use1, use2, use3, ‵, ⋆}
+pub use types.Kit.{ !, Goal, Item, Post, Seq, Soaks, Sq, Step, ◌$◌, ◌∵◌, ◌⊛◌, any_q, at_ret, await, by, done, drop, feq_i, feq_l, fjoin, fjoin3, fpack, fpick, frame, fsplit, fsplit3, given, group, join, keep, lands, later, learn, move, pick, qed, raw, rewrite, runs, some, split, step, suffices, use0, use1, use2, use3, ‵, ⋆}
 pub use types.Part.{agg, look_in, store_in, sub, whole}
 pub use types.Run.{Below, Opds, addr, again, alloc0, alloc1, and_then, assigns, assigns_last, bin, blocks, enter, exec, first, fld, forget, free0, from, hop, init, land, leaves_loop, lit, load, look, look_raw, loops, no_more, of_opd, params1, pass0, pass1, returns, stays, stop, store, store_raw, unit_lit}
 pub use types.Share.{arr_parts}
