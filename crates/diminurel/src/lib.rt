@@ -1,5 +1,7 @@
 // The entry points for callers in any language, over the rows that the caller lends, of any number (document 01, "What
 // the caller lends"): the rows are loaded into tables, answered by value and in numbers, and stored back.
+#![tactic(auto)]
+
 ghost use Rattle.std.specs.Prelude.{◌≡◌};
 ghost use Rattle.engine.specs.Usable.{is_usable};
 ghost use Rattle.entry_contracts.specs.Numbers.{yes_byte};

@@ -1,6 +1,7 @@
 // One reader goes over the payload and remembers how far it has read (document 01, "Checksum and fields"): a struct
-// with the payload and a place, over functions on slice and number. The functions over the reader are proved by hand
-// and straight-line: what branches stands in `last_field` and in `field_values`.
+// with the payload and a place, over functions on slice and number.
+#![tactic(auto)]
+
 ghost use Rattle.std.specs.Prelude.{◌≡◌, length};
 ghost use Rattle.field_values.specs.Values.{values_of, value_at, next_at};
 ghost use Rattle.field_values.specs.Bounds.{field_value, Within};

@@ -3,7 +3,7 @@
 --     ends-one         the end of one, which does not need its parameter any more
 --     meets-one        from its walk at every call to its contract
 -- Assumes `Logic`.
-use Rattle.hand_proofs.proofs.Prelude.{List, [], ◌∷◌, Ura, Fn, Name, Place, Operand, Body, seq, call, Val, SProp, ent, sep, emp, via, id⊢, Lft, Share, ftrue, flft, Env, Calls, Loops, WpFn, Tables, FmC, WpFn-mono, Item, ‵, raw, ◌⊛◌, ⋆, Post, runs, lands, Seq, ◌$◌, ◌∵◌, !, qed, move, keep, drop, use0, use1, group, split, join, fsplit, fjoin, suffices, frame, done, Opds, owns, yes, Is, Tells, Param, nothing, Bound, Ended, Clauses, AtExit, Lasts, at_exit, closing, on_entry, Meets, triple_of, Triple, Stays, Silent, stay_dropped, Goes-dropped, walk_of, ends_at, walked, walk_Meets}
+use Rattle.hand_proofs.proofs.Prelude.{List, [], ◌∷◌, Ura, Callee, Fn, Place, Operand, Body, seq, call, Val, SProp, ent, sep, emp, via, id⊢, Lft, Share, ftrue, flft, Env, Calls, Loops, WpFn, Tables, FmC, WpFn-mono, Item, ‵, raw, ◌⊛◌, ⋆, Post, runs, lands, Seq, ◌$◌, ◌∵◌, !, qed, move, keep, drop, use0, use1, group, split, join, fsplit, fjoin, suffices, frame, done, Opds, owns, yes, Is, Tells, Param, nothing, Bound, Ended, Clauses, AtExit, Lasts, at_exit, closing, on_entry, Meets, triple_of, Triple, Stays, Silent, stay_dropped, Goes-dropped, walk_of, ends_at, walked, walk_Meets}
 use Rattle.hand_proofs.proofs.Walk.{calls_own, says_all}
 use types.Logic.{Logic}
 
@@ -13,7 +13,7 @@ One P F = record { signature = record { lifetimes = 1; outlives = []; params = P
 abbrev pub dropped : (P F : Param 1) → Stays (One P F).signature.params (One P F).kept
 dropped P F = (stay_dropped P yes, tt)
 
-module _ {M : Type 1} {𝓤 : Ura M} {𝓛 : Logic 𝓤} {K : Type 0} {Γ : List (Item 𝓤)} {E : Env 𝓤 𝓛.H} {C : Calls 𝓤 𝓛.H} {Λ : Loops 𝓤 𝓛.H} {p : Post 𝓤 𝓛.H} {f : Name} {xs : List Operand} {d : Place} {rest : Body} where
+module _ {M : Type 1} {𝓤 : Ura M} {𝓛 : Logic 𝓤} {K : Type 0} {Γ : List (Item 𝓤)} {E : Env 𝓤 𝓛.H} {C : Calls 𝓤 𝓛.H} {Λ : Loops 𝓤 𝓛.H} {p : Post 𝓤 𝓛.H} {f : Callee} {xs : List Operand} {d : Place} {rest : Body} where
   open 𝓛 use {H}
 
   pub calls_one : K → FmC 𝓤 H 𝓛.laws C → (P F : Param 1) (c : Clauses 𝓤 (One P F)) → Triple 𝓤 (C f) (triple_of 𝓛 (One P F).signature (closing 𝓛 (One P F) c))

@@ -5,7 +5,7 @@ pub use base.Logic.{SProp, apply∗, emp, ent, fst∗, id⊢, sep, via, wand}
 pub use borrow.Author.Tests.{le-ltb, lt-ltb}
 pub use contract.Lifetimes.{AllOutlive}
 pub use contract.Monad.{Fun, fact, fact_i}
-pub use contract.Running.{given_of, tables}
+pub use contract.Running.{tables}
 unfoldable pub use contract.Running.{tables_of}
 pub use denote.Builtin.{u8, usize}
 pub use denote.Exit.{yes}
@@ -28,10 +28,11 @@ pub use denote.Triple.Spec.{Meets, triple_of}
 pub use denote.Triple.Statement.{Contract, Triple}
 pub use denote.Triple.Table.{cited, entered}
 pub use denote.Triple.Walked.{Silent, Stays, Walks, ends_at, gave_slice, Goes-dropped, Goes-gave_slice, Goes-ref, Goes-slice, says, stay_dropped, stay_ref, stay_slice, walk_Meets, walk_of, walked}
-pub use ghost.Atoms.{Atoms, sem}
-pub use seplogic.Ra.TreeShare.PosShare.{left as PosShare·left}
-pub use seplogic.Ra.TreeShare.PosShare.{right as PosShare·right}
-pub use seplogic.Ra.TreeShare.{full_share}
+pub use ghost.Atoms.{Atoms}
+pub use types.Logic.{sem}
+pub use base.Fraction.{left as PosShare·left}
+pub use base.Fraction.{right as PosShare·right}
+pub use base.Fraction.{full_share}
 pub use seplogic.Ra.Ura.{Ura}
 pub use lib.Dec.{T as Holds, lit<}
 pub use lib.ListN.{get_or, length}
@@ -39,7 +40,7 @@ pub use mathlib.Core.Bool.{Bool}
 pub use mathlib.Core.List.{List, [], ◌∷◌}
 pub use mathlib.Core.Logic.{⊎_elim}
 pub use mathlib.Core.Path.{◌∙◌, ◌≡◌, ap, refl, subst, sym}
-pub use mir.Syntax.{Body, Fn, Lifetime, Name, Opd as Operand, Place, Ty, call, erased, imm, mut, named, seq, ty_bool, ty_int, ty_ptr, ty_ref, ty_unit, w64, w8}
+pub use mir.Syntax.{Body, Callee, Fn, Lifetime, Opd as Operand, Place, Ty, call, erased, imm, mut, named, seq, ty_bool, ty_int, ty_ptr, ty_ref, ty_unit, w64, w8}
 pub use mir.Val.{Val, WT, has_ty, vbool, vint, vptr, vunit}
 pub use native.Mathlib.Nat.{eq-or-lt_of_le, min_comm, min-le_left, min-le_right}
 pub use native.Mathlib.Numerals.{add-one}
@@ -49,7 +50,7 @@ pub use prog.Routine.{Routine}
 pub use prog.Wp.{Calls, Env, Heap, Loops, Tables, Wp, WpFn, after_block, after_seq, at_return}
 unfoldable pub use prog.Wp.{after_turn}
 pub use sound.WpLaws.{FmC, WpFn-mono, fm_of}
-pub use types.Kit.{ !, Given, Goal, Item, Post, Seq, Soaks, Sq, Step, ◌$◌, ◌∵◌, ◌⊛◌, any_q, at_ret, await, by, done, drop, feq_i, feq_l, fjoin, fjoin3, fpack, fpick, frame, fsplit, fsplit3, given, group, join, keep, lands, later, learn, move, pick, qed, raw, rewrite, runs, some, split, step, suffices, use0, use1, use2, use3, ‵, ⋆}
+pub use types.Kit.{ !, Goal, Item, Post, Seq, Soaks, Sq, Step, ◌$◌, ◌∵◌, ◌⊛◌, any_q, at_ret, await, by, done, drop, feq_i, feq_l, fjoin, fjoin3, fpack, fpick, frame, fsplit, fsplit3, given, group, join, keep, lands, later, learn, move, pick, qed, raw, rewrite, runs, some, split, step, suffices, use0, use1, use2, use3, ‵, ⋆}
 pub use types.Part.{agg, look_in, store_in, sub, whole}
 pub use types.Run.{Below, Opds, addr, again, alloc0, alloc1, and_then, assigns, assigns_last, bin, blocks, enter, exec, first, fld, forget, free0, from, hop, init, land, leaves_loop, lit, load, look, look_raw, loops, no_more, of_opd, params1, pass0, pass1, returns, stays, stop, store, store_raw, unit_lit}
 pub use types.Share.{arr_parts}

@@ -1,2 +1,4 @@
-// What the proofs by hand share: their imports (proofs/Prelude), steps of any function (proofs/Walk, proofs/Loan),
+#![tactic(auto)]
+
+// What proofs by hand share: their imports (proofs/Prelude), steps of any function (proofs/Walk, proofs/Loan),
 // and functions of one parameter (proofs/OneParameter). No code.

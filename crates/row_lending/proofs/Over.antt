@@ -2,12 +2,17 @@
 --     over q p i       the rows q after i turns: the first i cells of p are put into the first of them
 --     as_many          there are as many as of q
 --     over-all         after as many turns as there are of both it is `each_with`
+--     turned           one more turn of a loop that puts them
+--     turned_all       and what there is after as many turns as there are of both
 --     laid             where a row itself is put in the place of each, that is p laid over q
+--     laid_as          and where what is made of a row is
 -- Assumes nothing.
-use mathlib.Core.Path.{◌≡◌, refl, ◌∙◌, ap}
-use Prim.Native.Nat.{ℕ, zero, suc, ◌<◌, ◌≤◌, min}
+use mathlib.Core.Path.{◌≡◌, refl, sym, ◌∙◌, ap}
+use Prim.Native.Nat.{ℕ, zero, suc, ◌+◌, ◌<◌, ◌≤◌, min}
 use native.Mathlib.Nat.{not-suc-le-zero, le_of_suc-le-suc, min-le_left, min-le_right, suc-min-suc, min-zero, zero-min, le_of_lt}
-use mathlib.Core.List.{List, [], ◌∷◌}
+use native.Mathlib.Numerals.{add-one}
+use native.Mathlib.Omega.{arith}
+use mathlib.Core.List.{List, [], ◌∷◌, map}
 use lib.ListN.{length, get_or, take, set, length-set}
 use Rattle.row_lending.specs.Tables.{overlay, each_with}
 
@@ -38,8 +43,21 @@ module _ {R C : Type 0} (f : R → C → R) (d : R) (e : C) where
   pub over_all : (q : List R) (p : List C) (k : ℕ) → k ≡ min (length p) (length q) → over q p k ≡ each_with f q p
   over_all q p k h = ap (over q p) h ∙ over_is q p (min (length p) (length q)) (min-le_right (length p) (length q)) (min-le_left (length p) (length q)) ∙ all_put q p
 
+  pub turned : (xs q : List R) (p : List C) (i : ℕ) → xs ≡ each_with f q (take i p) → i < length q → i < length p → set xs i (f (get_or xs i d) (get_or p i e)) ≡ each_with f q (take (i + 1) p)
+  turned xs q p i h l m =
+      ap (λ (r : List R). set r i (f (get_or r i d) (get_or p i e))) h ∙ one_more q p i l m ∙ ap (λ (k : ℕ). each_with f q (take k p)) (sym (add-one i))
+
+  pub turned_all : (xs q : List R) (p : List C) (i n : ℕ) → xs ≡ each_with f q (take i p) → i ≤ n → n ≤ i → n ≡ min (length p) (length q) → xs ≡ each_with f q p
+  turned_all xs q p i n h l m k = h ∙ ap (λ (k : ℕ). each_with f q (take k p)) (omega (arith, k)) ∙ all_put q p
+
 pub laid : {X : Type 0} (q p : List X) → each_with (λ _ x. x) q p ≡ overlay p q
 laid [] [] = refl
 laid (y ∷ q) [] = refl
 laid [] (x ∷ p) = refl
 laid {X} (y ∷ q) (x ∷ p) = ap (λ (r : List X). x ∷ r) (laid q p)
+
+pub laid_as : {X Y : Type 0} (f : X → Y) (q : List Y) (p : List X) → each_with (λ _ x. f x) q p ≡ overlay (map f p) q
+laid_as f [] [] = refl
+laid_as f (y ∷ q) [] = refl
+laid_as f [] (x ∷ p) = refl
+laid_as {X} {Y} f (y ∷ q) (x ∷ p) = ap (λ (r : List Y). f x ∷ r) (laid_as f q p)

@@ -1,5 +1,7 @@
 // The rows that a caller lends, of any number, taken into tables by value and put back (document 01, "What the
 // caller lends"): slots as rows, registers as their cards and their marks. One row is copied at a time.
+#![tactic(auto)]
+
 ghost use Rattle.std.specs.Prelude.{◌≡◌, min};
 ghost use Rattle.row_lending.specs.Tables.{overlay, each_with, with_card, with_mark};
 ghost use Rattle.row_lending.specs.Tables.{free_slots, free_cards, free_marks, slot_table, card_table, mark_table};
