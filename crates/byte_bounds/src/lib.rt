@@ -1,5 +1,7 @@
 // Where a part of a byte string stands, as two numbers: what was found once is handed on by its bounds, and not looked
 // for again.
+#![tactic(auto)]
+
 ghost use Rattle.std.specs.Prelude.{◌≡◌, ◌-◌, ◌≤◌, length};
 ghost use Rattle.byte_bounds.specs.Bounds.{bytes_in, FitIn, inside};
 

@@ -1,4 +1,6 @@
 // The order of byte strings (document 02, N1).
+#![tactic(auto)]
+
 ghost use Rattle.std.specs.Prelude.{◌≡◌};
 ghost use Rattle.byte_orders.specs.Orders.{is_before};
 

@@ -1,4 +1,6 @@
 // Byte strings cut at a delimiter that ends each piece.
+#![tactic(auto)]
+
 ghost use Rattle.std.specs.Prelude.{◌≡◌, ◌+◌, ◌≤◌, length, drop};
 ghost use Rattle.byte_strings.specs.Strings.{is_not, run};
 

@@ -1,4 +1,6 @@
 // How many bytes stand before a delimiter.
+#![tactic(auto)]
+
 ghost use Rattle.std.specs.Prelude.{◌≡◌, true, ◌≤◌, length, take};
 ghost use Rattle.byte_strings.specs.Strings.{is_not, run, all_of};
 

@@ -1,4 +1,6 @@
 // Byte strings in lent memory: written from a place on, compared, and their front.
+#![tactic(auto)]
+
 ghost use Rattle.std.specs.Prelude.{◌≡◌, [], ◌∷◌, ◌+◌, ◌≤◌, ◌<◌, length, take};
 ghost use Rattle.byte_strings.specs.Wrote.{Writes};
 ghost use Rattle.byte_strings.specs.Strings.{same_bytes};

@@ -1,4 +1,6 @@
 // The attributes of a card (001 Annex F Table F.1; document 01, Cards), ascending by name.
+#![tactic(auto)]
+
 ghost use Rattle.std.specs.Prelude.{◌≡◌, ◌∷◌, ◌+◌, ◌<◌, drop};
 ghost use Rattle.card_attributes.specs.Table.{table, rows};
 

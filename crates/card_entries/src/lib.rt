@@ -1,4 +1,6 @@
 // Attribute cards: entries of a name, a value and a semicolon (document 01, Cards; 001 Annex F; 003 Appendix B).
+#![tactic(auto)]
+
 ghost use Rattle.std.specs.Prelude.{◌≡◌, ◌<◌};
 ghost use Rattle.card_entries.specs.Entries.{name_of};
 

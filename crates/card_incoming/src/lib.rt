@@ -1,4 +1,6 @@
 // The incoming card of a KEY.1 record: what passes question 10, and where its values stand (document 01, Cards).
+#![tactic(auto)]
+
 ghost use Rattle.std.specs.Prelude.{◌≡◌, true, drop};
 ghost use Rattle.card_attributes.specs.Table.{table};
 ghost use Rattle.card_incoming.specs.Incoming.{fits, fits_first, index_of, has_noted, is_incoming, AreValues};

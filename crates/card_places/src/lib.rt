@@ -1,6 +1,8 @@
 // A card as stored, read once: whether it is one, and where the values stand that question 3 compares (document 01,
 // Cards and question 3). Most values have one length, so that most bytes stand at known places and are compared with a
 // pattern: a digit for itself and the smaller ones, F for every hexadecimal digit, any other byte for itself.
+#![tactic(auto)]
+
 ghost use Rattle.std.specs.Prelude.{◌≡◌, ◌+◌, ◌≤◌, ◌<◌, length, take};
 ghost use Rattle.text_forms.specs.declared.Form.TheVariants.{Number, Label};
 ghost use Rattle.card_attributes.specs.Table.{KEN, KRN, SGN, ULM, table};

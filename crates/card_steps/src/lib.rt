@@ -1,5 +1,7 @@
 // Steps through a card: the place after an entry, whose value ends where its semicolon stands or, for a number, where
 // its digits end (document 01, "Cards").
+#![tactic(auto)]
+
 ghost use Rattle.std.specs.Prelude.{◌≡◌, true, ◌⊎◌, ◌+◌, ◌≤◌, ◌<◌, length};
 ghost use Rattle.byte_strings.specs.Strings.{run};
 ghost use Rattle.text_classes.specs.Classes.{is_of, are_all};

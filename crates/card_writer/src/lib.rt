@@ -1,5 +1,7 @@
 // Writes the stored card, which has fifteen attributes and SGN where the incoming card has it, from an incoming one
 // (document 01, Cards; document 02, N2).
+#![tactic(auto)]
+
 ghost use Rattle.std.specs.Prelude.{◌≡◌, not, ◌||◌, [], ◌+◌, ◌≤◌, ◌<◌, eqb, length};
 ghost use Rattle.byte_strings.specs.Wrote.{Writes};
 ghost use Rattle.byte_strings.specs.Texts.{text};

@@ -1,5 +1,7 @@
 // The decimal writer for callers outside, who try it on numbers that no response holds (document 02, N4). No part of
 // the engine. Each function writes twice: to learn the length, and into the lent buffer, which may be just long enough.
+#![tactic(auto)]
+
 ghost use Rattle.std.specs.Prelude.{length};
 ghost use Rattle.byte_strings.specs.Wrote.{Writes};
 ghost use Rattle.text_decimal_writer.specs.Digits.{long_bytes};

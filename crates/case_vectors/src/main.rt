@@ -1,5 +1,6 @@
 // Reads vectors from standard input, a line each, and prints each with what it gives. A line is a kind, a space and a
 // text; # starts a comment.
+#![tactic(auto)]
 
 ghost use Rattle.std.specs.Prelude.{◌≡◌, true, length};
 ghost use Rattle.field_values.specs.Bounds.{Within};

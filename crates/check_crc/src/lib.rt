@@ -5,6 +5,8 @@
 // factor, x^14 is 1 + x^-1, and so x^56 is 1 + x^-4: that many bits take two shifts. The result may lack the second
 // factor, 0xC001, which later bits leave as it is. They leave the parity of the check value as it is too, so at the end
 // the parity tells whether to add it.
+#![tactic(auto)]
+
 ghost use Rattle.std.specs.Prelude.{◌≡◌, ◌+◌, ◌*◌, ◌/◌, ◌%◌, ◌<◌, ◌≤◌, length, drop, replicate};
 ghost use Rattle.std.specs.Int.Bits.{bit_xor};
 ghost use Rattle.std.specs.Int.Count.{ones};

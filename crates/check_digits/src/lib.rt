@@ -1,4 +1,6 @@
 // A 16-bit number as four hexadecimal digits, capitals only, the high digit first: written, and read.
+#![tactic(auto)]
+
 ghost use Rattle.std.specs.Prelude.{◌≡◌, ◌+◌, ◌≤◌, ◌<◌, length};
 ghost use Rattle.byte_strings.specs.Wrote.{Writes};
 ghost use Rattle.check_digits.specs.Hex.{hex_digit, hex_value, hex4, from_digits, read_hex4};

@@ -1,4 +1,6 @@
 // The check value that ends a message or a record: four digits of the CRC-16 of all that stands before them.
+#![tactic(auto)]
+
 ghost use Rattle.std.specs.Prelude.{◌≡◌, ◌+◌, ◌-◌, ◌≤◌, length, take, drop};
 ghost use Rattle.byte_strings.specs.Wrote.{Writes};
 ghost use Rattle.check_sums.specs.Checksum.{sum_of, sum_digits, ends_in_sum};

@@ -1,5 +1,7 @@
 // The console (docs/CONSOLE.md). What a line does and prints is `console_steps::step`; here lines are read and what
 // they print is written.
+#![tactic(auto)]
+
 use console_input::Pending;
 use console_state::Console;
 use libc::{STDIN_FILENO, STDOUT_FILENO};

@@ -1,4 +1,6 @@
 // The lines that the console answers with (docs/CONSOLE.md), over numbers.
+#![tactic(auto)]
+
 ghost use Rattle.std.specs.Prelude.{◌++◌, ◌+◌, ◌≤◌, length};
 ghost use Rattle.byte_strings.specs.Texts.{text};
 ghost use Rattle.byte_strings.specs.Wrote.{Writes};

@@ -1,5 +1,7 @@
 // Whether what stands after the first word of a line of the console is in the form of that line (docs/CONSOLE.md), of
 // the lines that have more than one word there.
+#![tactic(auto)]
+
 ghost use Rattle.std.specs.Prelude.{◌≡◌};
 ghost use Rattle.console_forms.specs.LineForms.{are_tables, has_byte, is_slot_row, is_slot, is_register};
 

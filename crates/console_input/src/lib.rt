@@ -1,5 +1,7 @@
 // The line that is being read: its bytes come in parts, as standard input is read (docs/CONSOLE.md). Of a line that is
 // too long the first 4,097 bytes tell so.
+#![tactic(auto)]
+
 ghost use Rattle.std.specs.Prelude.{◌≡◌, [], ◌++◌, ◌≤◌, length, take};
 ghost use Rattle.console_input.specs.Input.{held, next_number};
 

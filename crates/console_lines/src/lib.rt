@@ -1,5 +1,7 @@
 // A line of the console (docs/CONSOLE.md): what it asks for. What it asks it with stands after its first space, and is
 // not in the answer.
+#![tactic(auto)]
+
 ghost use Rattle.std.specs.Prelude.{◌≡◌};
 ghost use Rattle.console_lines.specs.Lines.{tables_line, buffer_line, part_line, passed_line, send_line, raw_line};
 ghost use Rattle.console_lines.specs.Lines.{slot_line, register_line, usable_line, alone_line, rest_line, line_of};

@@ -1,4 +1,6 @@
 // Octets as two hexadecimal digits each, capitals only, the high digit first: written, and read.
+#![tactic(auto)]
+
 ghost use Rattle.std.specs.Prelude.{◌≡◌, [], ◌∷◌, ◌+◌, ◌≤◌, length};
 ghost use Rattle.byte_strings.specs.Wrote.{Writes};
 ghost use Rattle.console_octets.specs.Octets.{octet_of, digits_of, octets_of};

@@ -1,5 +1,7 @@
 // The words of a line that the console prints (docs/CONSOLE.md): each with the space after it, and the last with the
 // line feed.
+#![tactic(auto)]
+
 ghost use Rattle.std.specs.Prelude.{◌≡◌, ◌++◌, ◌+◌, ◌≤◌, length};
 ghost use Rattle.byte_strings.specs.Texts.{text};
 ghost use Rattle.byte_strings.specs.Wrote.{Writes};

@@ -1,5 +1,7 @@
 // A request that the console hands in (docs/CONSOLE.md), as text or as octets, to the function that the library answers
 // with; and the line of its answer.
+#![tactic(auto)]
+
 ghost use Rattle.std.specs.Prelude.{◌≡◌, ◌≤◌, length};
 ghost use Rattle.message_frames.specs.Frames.{framed};
 ghost use Rattle.console_octets.specs.Octets.{octets_of};

@@ -1,4 +1,6 @@
 // One row as the line `rows` of the console prints it (docs/CONSOLE.md): in the form of the line that sets it.
+#![tactic(auto)]
+
 ghost use Rattle.std.specs.Prelude.{◌≡◌, [], ◌∷◌, ◌++◌, ◌+◌, ◌≤◌, ◌<◌, length};
 ghost use Rattle.byte_strings.specs.Wrote.{Writes};
 ghost use Rattle.console_octets.specs.Octets.{digits_of};

@@ -1,4 +1,6 @@
 // The rows as the line `rows` of the console prints them (docs/CONSOLE.md): each in the form of the line that sets it.
+#![tactic(auto)]
+
 ghost use Rattle.std.specs.Prelude.{◌+◌, ◌≤◌, length};
 ghost use Rattle.byte_strings.specs.Wrote.{Writes};
 ghost use Rattle.console_rows.specs.Rows.{slot_lines, register_lines, row_lines};

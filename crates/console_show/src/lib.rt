@@ -1,4 +1,6 @@
 // The rows for people: what the line `show` of the console prints (docs/CONSOLE.md).
+#![tactic(auto)]
+
 ghost use Rattle.std.specs.Prelude.{◌+◌, ◌≤◌, length};
 ghost use Rattle.byte_strings.specs.Wrote.{Writes};
 ghost use Rattle.row_types.specs.Lists.{in_turn};

@@ -1,4 +1,6 @@
 // One row for people, as the line `show` of the console prints it (docs/CONSOLE.md), and how many rows there are.
+#![tactic(auto)]
+
 ghost use Rattle.std.specs.Prelude.{[], ◌∷◌, ◌++◌, ◌+◌, ◌≤◌, ◌<◌, length};
 ghost use Rattle.byte_strings.specs.Texts.{text};
 ghost use Rattle.byte_strings.specs.Wrote.{Writes};

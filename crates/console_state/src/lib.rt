@@ -1,4 +1,6 @@
 // The console's state (docs/CONSOLE.md), and what a line that hands nothing in does to it.
+#![tactic(auto)]
+
 ghost use Rattle.std.specs.Prelude.{◌≡◌};
 ghost use Rattle.console_state.specs.State.{has_row, checked, with_tables, with_supplement, with_room, start, set_by};
 

@@ -1,4 +1,6 @@
 // One line of the console (docs/CONSOLE.md): what it does to the state, and what it prints.
+#![tactic(auto)]
+
 ghost use Rattle.std.specs.Prelude.{◌≡◌, ◌≤◌, length};
 ghost use Rattle.byte_strings.specs.Wrote.{Writes};
 ghost use Rattle.console_words.specs.Words.{rest};

@@ -1,4 +1,6 @@
 // The supplement that the console hands in (docs/CONSOLE.md): each part set by a line, and all of it at the start.
+#![tactic(auto)]
+
 ghost use Rattle.std.specs.Prelude.{◌≡◌};
 ghost use Rattle.row_types.specs.Lists.{padded};
 ghost use Rattle.console_supplement.specs.Parts.{fitted, with_part, with_passed, blank, start_supplement};

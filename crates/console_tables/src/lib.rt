@@ -1,4 +1,6 @@
 // The tables that the console lends (docs/CONSOLE.md): all zero, and with a row set from its digits.
+#![tactic(auto)]
+
 ghost use Rattle.std.specs.Prelude.{◌≡◌};
 ghost use Rattle.row_types.specs.Lists.{padded};
 ghost use Rattle.console_octets.specs.Octets.{octets_of};

@@ -1,5 +1,7 @@
 // Bytes of a row shown as text: what stands before the first zero, with a full stop for each byte that is no text, and
 // - for nothing.
+#![tactic(auto)]
+
 ghost use Rattle.std.specs.Prelude.{◌≡◌, [], ◌∷◌, ◌++◌, map, ◌+◌, ◌≤◌, ◌<◌, length};
 ghost use Rattle.byte_strings.specs.Wrote.{Writes};
 ghost use Rattle.console_text.specs.Texts.{legible, shown};

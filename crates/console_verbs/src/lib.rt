@@ -1,4 +1,6 @@
 // What the first word of a line of the console names (docs/CONSOLE.md).
+#![tactic(auto)]
+
 ghost use Rattle.std.specs.Prelude.{◌≡◌, ◌∷◌, ◌+◌, ◌<◌, drop};
 ghost use Rattle.console_verbs.specs.Verbs.{verbs, verb_of};
 

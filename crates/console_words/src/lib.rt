@@ -1,4 +1,6 @@
 // The words of a line of the console (docs/CONSOLE.md), split by one space.
+#![tactic(auto)]
+
 ghost use Rattle.std.specs.Prelude.{◌≡◌};
 ghost use Rattle.console_words.specs.Words.{word, rest, has_rest};
 

@@ -1,5 +1,7 @@
 // What is to be done once the message is right (document 01, "Questions in order", 8 to 18): the questions of its
 // command.
+#![tactic(auto)]
+
 ghost use Rattle.std.specs.Prelude.{◌≡◌, true, ◌≤◌, take};
 ghost use Rattle.field_values.specs.Values.{values_of};
 ghost use Rattle.row_index.specs.Found.{AreKeys};

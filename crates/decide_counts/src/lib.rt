@@ -1,5 +1,7 @@
 // Questions 1 and 2 (document 01, "Questions in order"): the row counts, and the length of the response buffer. They
 // look at no row.
+#![tactic(auto)]
+
 ghost use Rattle.std.specs.Prelude.{◌≡◌};
 ghost use Rattle.engine.specs.Questions.{are_counts};
 ghost use Rattle.decide_counts.specs.First.{first_refusal};

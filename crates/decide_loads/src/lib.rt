@@ -1,5 +1,7 @@
 // SM?KL, which loads a key (document 01, "Questions in order", 8 and on): its questions in turn, and the first no
 // decides.
+#![tactic(auto)]
+
 ghost use Rattle.std.specs.Prelude.{◌≡◌, true, List, ◌≤◌, take};
 ghost use Rattle.field_values.specs.Values.{values_of};
 ghost use Rattle.message_commands.specs.declared.Command.TheVariants.{KL};

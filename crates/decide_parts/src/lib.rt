@@ -1,5 +1,7 @@
 // A decision with what it was made of: where the parts of the request stand that its command goes on to use. They were
 // found by the questions, and are not looked for again.
+#![tactic(auto)]
+
 ghost use Rattle.std.specs.Prelude.{◌≡◌};
 ghost use Rattle.engine.specs.declared.Decision.TheVariants.{Refuse};
 

@@ -1,6 +1,8 @@
 // A request's payload as the fields of one command (document 01, "Questions in order", 8): none, one string, one
 // number, or two strings, and nothing over. The fields come from the payload's reader; one of another type than the
 // command lists ends the reading.
+#![tactic(auto)]
+
 ghost use Rattle.std.specs.Prelude.{◌≡◌, length};
 ghost use Rattle.field_values.specs.Values.{values_of};
 ghost use Rattle.card_entries.specs.Entries.{between, Within};

@@ -1,5 +1,7 @@
 // The tests behind questions 11 to 18 (document 01, "Questions in order"): each judges one record, row or supplement,
 // or makes one search of a table.
+#![tactic(auto)]
+
 ghost use Rattle.std.specs.Prelude.{◌≡◌, true, ◌||◌, List, ◌+◌, ◌*◌, ◌≤◌, eqb, take};
 ghost use Rattle.byte_strings.specs.Strings.{same_bytes};
 ghost use Rattle.byte_bounds.specs.Bounds.{Stands};

@@ -1,5 +1,7 @@
 // SM?KD and SM?GA, the commands about a register (document 01, "Questions in order", 8 and 18): one function a command
 // asks its questions in turn, and the first no decides.
+#![tactic(auto)]
+
 ghost use Rattle.std.specs.Prelude.{◌≡◌, List, ◌≤◌, take};
 ghost use Rattle.field_values.specs.Values.{values_of};
 ghost use Rattle.message_commands.specs.declared.Command.TheVariants.{KD, GA};

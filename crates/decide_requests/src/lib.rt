@@ -1,5 +1,7 @@
 // What is to be done with a request (document 01, "Questions in order"): questions 1 to 7 are asked in turn, and then
 // those of its command.
+#![tactic(auto)]
+
 ghost use Rattle.std.specs.Prelude.{◌≡◌, true, List, take};
 ghost use Rattle.row_types.specs.declared.RegisterRow.{RegisterRow};
 ghost use Rattle.row_index.specs.Lent.{tables_with};

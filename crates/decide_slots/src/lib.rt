@@ -1,5 +1,7 @@
 // GL?RS, SM?GL, SM?KF, SM?KX and SM?KQ, the commands about slots that bring no record (document 01, "Questions in
 // order", 8 and on): one function a command asks its questions in turn, and the first no decides.
+#![tactic(auto)]
+
 ghost use Rattle.std.specs.Prelude.{◌≡◌, ◌≤◌, take};
 ghost use Rattle.field_values.specs.Values.{values_of};
 ghost use Rattle.message_commands.specs.declared.Command.TheVariants.{RS, KF, KX, GL, KQ};

@@ -1,5 +1,7 @@
 // SM?KC, which starts a session (document 01, "Questions in order", 8 and on): its questions in turn, and the first no
 // decides.
+#![tactic(auto)]
+
 ghost use Rattle.std.specs.Prelude.{◌≡◌, ◌-◌, ◌≤◌, take};
 ghost use Rattle.byte_bounds.specs.Bounds.{FitIn, inside};
 ghost use Rattle.field_values.specs.Values.{values_of};

@@ -1,7 +1,7 @@
 -- The call that tables by value, a supplement, a request and a response buffer make; and the answer to it, with buffer
 -- and tables afterwards.
 use Rattle.std.specs.Prelude.{ℕ, ◌≤◌, ◌≡◌, List, ◌++◌, length, drop}
-use Rattle.std.specs.Borrow.{Bor}
+use Rattle.std.specs.Borrow.{Bor, MutBor}
 use denote.Triple.Both.{Both}
 use Rattle.row_types.specs.Places.{slot_rows, register_rows}
 use Rattle.row_types.specs.declared.Tables.{Tables}
@@ -25,7 +25,7 @@ call_in t x request room = record {
 
 -- the answer to a request and a response buffer as they were handed in
 abbrev pub answer_over
-    : {X Y : Type 0} → Tables → Supplement → Both (Bor (List ℕ)) X → Both (Bor (List ℕ)) Y → Answer
+    : {X Y : Type 0} → Tables → Supplement → Both (Bor (List ℕ)) X → Both (MutBor (List ℕ)) Y → Answer
 answer_over tables supplement request response =
     answer_of (call_in tables supplement request.entry.now (length response.entry.now))
 
@@ -44,7 +44,7 @@ abbrev pub IsAnswered
     → Tables
     → Supplement
     → Both (Bor (List ℕ)) X
-    → Both (Bor (List ℕ)) (Bor (List ℕ))
+    → Both (MutBor (List ℕ)) (MutBor (List ℕ))
     → Outcome
     → ℕ
     → Tables

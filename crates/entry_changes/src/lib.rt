@@ -1,5 +1,7 @@
 // The rows after a decision (document 01, "Slots and registers"; document 02, N3). The tables are changed in one place,
 // and a row at a time but for the sweeps of GL?RS, SM?KF and SM?KX.
+#![tactic(auto)]
+
 ghost use Rattle.std.specs.Prelude.{◌≡◌, ◌≤◌, length};
 ghost use Rattle.field_values.specs.Values.{values_of};
 ghost use Rattle.card_stored.specs.Stored.{in_row};

@@ -1,7 +1,7 @@
 -- What `diminurel_handle` promises of a call, over plain lists: what its caller lends and hands in, and finds
 -- afterwards.
 use Rattle.std.specs.Prelude.{ℕ, ◌≤◌, ◌≡◌, List, length}
-use Rattle.std.specs.Borrow.{Bor}
+use Rattle.std.specs.Borrow.{Bor, MutBor}
 use denote.Triple.Both.{Both}
 use Rattle.row_types.specs.declared.SlotRow.{SlotRow}
 use Rattle.row_types.specs.declared.RegisterRow.{RegisterRow}
@@ -42,11 +42,11 @@ pub record Handles (rows : Lent) (run : Run) (left : Lent) : Type 0 where
 
 -- the same of the parameters of the function and what it returns
 abbrev pub Handled : {X : Type 0}
-    → Both (Bor (List SlotRow)) (Bor (List SlotRow))
-    → Both (Bor (List RegisterRow)) (Bor (List RegisterRow))
+    → Both (MutBor (List SlotRow)) (MutBor (List SlotRow))
+    → Both (MutBor (List RegisterRow)) (MutBor (List RegisterRow))
     → Supplement
     → Both (Bor (List ℕ)) X
-    → Both (Bor (List ℕ)) (Bor (List ℕ))
+    → Both (MutBor (List ℕ)) (MutBor (List ℕ))
     → Reply
     → Type 0
 Handled slots registers supplement request response reply =

@@ -1,6 +1,8 @@
 // The engine over slot rows and marks by value and lent cards: a request, the rows, a response buffer and a supplement
 // give an accepted answer or a refusal (document 01). Question 3 reads each card once, and what it finds serves the
 // decision, the response and the change of the rows.
+#![tactic(auto)]
+
 ghost use Rattle.std.specs.Prelude.{◌≡◌, true, length, take};
 ghost use Rattle.row_index.specs.Lent.{marked_rows, tables_with_marks};
 ghost use Rattle.engine.specs.Questions.{are_counts};

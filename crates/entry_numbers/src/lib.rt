@@ -1,5 +1,7 @@
 // The two answers in numbers, for the library's entry points and the console: what the core answers of a request, and
 // which key may vend; over lent cards and marks, the first over register rows by value too.
+#![tactic(auto)]
+
 ghost use Rattle.std.specs.Prelude.{◌≡◌, length};
 ghost use Rattle.row_index.specs.Lent.{tables_with, tables_with_marks};
 ghost use Rattle.engine.specs.Calls.{answer_over};

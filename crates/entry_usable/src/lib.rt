@@ -1,4 +1,6 @@
 // Which key may vend (document 02, N3: "a key is usable exactly when it is marked closed, whatever the slot's state").
+#![tactic(auto)]
+
 ghost use Rattle.std.specs.Prelude.{◌≡◌, ◌-◌, ◌≤◌, eqb, length, get_or};
 ghost use Rattle.row_types.specs.Registers.{closed_mark};
 ghost use Rattle.row_index.specs.Lent.{tables_with_marks};

@@ -1,4 +1,6 @@
 // PTVD fields read at a place of a payload (001 clause 5.4, Table 6, as document 01 narrows them).
+#![tactic(auto)]
+
 ghost use Rattle.std.specs.Prelude.{◌≡◌, ◌+◌, ◌-◌, ◌^◌, ◌≤◌, ◌<◌, length, take, drop};
 ghost use Rattle.field_values.specs.Values.{is_octets, typed, value_at, next_at};
 ghost use Rattle.field_values.specs.Bounds.{field_value, Within, number_of, place_after};

@@ -1,4 +1,6 @@
 // PTVD fields written into a lent buffer (001 clause 5.4, Table 6).
+#![tactic(auto)]
+
 ghost use Rattle.std.specs.Prelude.{◌+◌, ◌≤◌, ◌≡◌, length};
 ghost use Rattle.byte_strings.specs.Wrote.{Writes};
 ghost use Rattle.field_values.specs.Values.{number, string, octets, content_bytes, field_bytes};

@@ -1,5 +1,7 @@
 // The ten commands of document 01 by their headers, fixed byte strings that are compared with a request's (001
 // clauses 6.2.7 and 6.3).
+#![tactic(auto)]
+
 ghost use Rattle.std.specs.Prelude.{◌≡◌, ◌∷◌, ◌+◌, ◌<◌, drop};
 ghost use Rattle.message_commands.specs.Commands.{headers, command_of};
 

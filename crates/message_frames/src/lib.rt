@@ -1,5 +1,7 @@
 // The frame of a message, read: its length, carriage return and checksum, its header and payload (001 clauses 5.2 and
 // 5.3; document 01, "Checksum and fields").
+#![tactic(auto)]
+
 ghost use Rattle.std.specs.Prelude.{◌≡◌, ◌-◌, length};
 ghost use Rattle.message_frames.specs.Frames.{is_whole, is_checked, header_of, payload_of};
 

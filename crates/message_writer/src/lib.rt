@@ -1,5 +1,7 @@
 // The head of a response and the ending of a message written into a lent buffer (001 clauses 5.2 and 5.3; document
 // 01, "Checksum and fields").
+#![tactic(auto)]
+
 ghost use Rattle.std.specs.Prelude.{◌≡◌, ◌+◌, ◌≤◌, length, take};
 ghost use Rattle.byte_strings.specs.Wrote.{Writes};
 ghost use Rattle.message_frames.specs.Frames.{ending, head_bytes};

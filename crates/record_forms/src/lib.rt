@@ -1,5 +1,7 @@
 // Whether the fields of a public key, load response or wrapped key are in form: question 10 (003 clauses 7.2 to 7.5;
 // document 01, "Records").
+#![tactic(auto)]
+
 ghost use Rattle.std.specs.Prelude.{◌≡◌, true, ◌&&◌};
 ghost use Rattle.record_parser.specs.Records.{field, AreFields};
 ghost use Rattle.text_forms.specs.Forms.{in_form};

@@ -1,5 +1,7 @@
 // Identities of key management centres and modules (003 clause 7.1; document 01, "Records"), and the form of a
 // record's fields.
+#![tactic(auto)]
+
 ghost use Rattle.std.specs.Prelude.{◌≡◌, true, length};
 ghost use Rattle.byte_bounds.specs.Bounds.{bytes_in, FitIn};
 ghost use Rattle.record_parser.specs.Records.{AreFields};

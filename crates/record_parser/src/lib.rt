@@ -1,4 +1,6 @@
 // Records of delimited fields, parsed: PARSE-RECORD (003 clauses 5.5, 5.7.2 and 5.8.2; document 01, "Records").
+#![tactic(auto)]
+
 ghost use Rattle.std.specs.Prelude.{◌≡◌, true, false, ◌&&◌, [], ◌∷◌, ◌++◌, ◌+◌, ◌≤◌, ◌<◌, leb, eqb, length, take};
 ghost use Rattle.byte_strings.specs.Strings.{same_bytes};
 ghost use Rattle.byte_strings.specs.Texts.{all};

@@ -1,5 +1,7 @@
 // The records of key management, cut: the public key, load response and wrapped key, with the identities inside them:
 // question 9 (003 clauses 7.2 to 7.5; document 01, "Records").
+#![tactic(auto)]
+
 ghost use Rattle.std.specs.Prelude.{◌≡◌, true};
 ghost use Rattle.record_parser.specs.Records.{AreFields};
 ghost use Rattle.record_types.specs.KeyRecords.{bar, parses_public_key, parses_response, parses_key};

@@ -1,5 +1,7 @@
 // Records of delimited fields written into a lent buffer: BUILD-RECORD (003 clauses 5.7.1 and 5.8.1; document 01,
 // "Records").
+#![tactic(auto)]
+
 ghost use Rattle.std.specs.Prelude.{◌≡◌, [], ◌∷◌, ◌+◌, ◌-◌, ◌≤◌, length, take, drop};
 ghost use Rattle.byte_strings.specs.Wrote.{Writes};
 ghost use Rattle.byte_pieces.specs.Pieces.{joined};

@@ -1,6 +1,8 @@
 // Question 3 of the registers (document 01, "Questions in order"): each row judged by itself and by its owner, its
 // card read once; and their keys and owners as numbers, for the test that no two registers hold one key and for the
 // questions after it.
+#![tactic(auto)]
+
 ghost use Rattle.std.specs.Prelude.{◌≡◌, true, false, map, ◌+◌, ◌-◌, ◌*◌, ◌≤◌, length, take, drop};
 ghost use Rattle.text_decimals.specs.Decimals.{decimal};
 ghost use Rattle.row_types.specs.Lists.{every_row, distinct_rows};

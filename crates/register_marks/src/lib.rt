@@ -1,5 +1,7 @@
 // Question 3 of the marks (document 02, N3): closed, or open beside a key whose slot is PENDING or LOADING; by the
 // numbers of the registers' owners and of the slots' states, which question 3 found before.
+#![tactic(auto)]
+
 ghost use Rattle.std.specs.Prelude.{◌≡◌, ◌≤◌, take};
 ghost use Rattle.register_marks.specs.Marked.{is_mark_right, are_marks_right, AreUpTo};
 

@@ -1,5 +1,7 @@
 // One register row (document 01, "Slots and registers"): whether its card's space is clear, whether all of it is zero,
 // and a free row.
+#![tactic(auto)]
+
 ghost use Rattle.std.specs.Prelude.{◌≡◌};
 ghost use Rattle.text_classes.specs.Classes.{are_all};
 ghost use Rattle.text_classes.specs.declared.Class.TheVariants.{Zero};

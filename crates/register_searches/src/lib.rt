@@ -1,5 +1,7 @@
 // The search of the registers (document 01, "Slots and registers"): where a key stands, and the lowest free
 // register, by the numbers that question 3 found.
+#![tactic(auto)]
+
 ghost use Rattle.std.specs.Prelude.{◌≡◌, ◌≤◌, take};
 ghost use Rattle.row_types.specs.Lists.{first_from};
 ghost use Rattle.row_types.specs.Places.{place_of, PlaceWithin};

@@ -1,5 +1,7 @@
 // The registers of the table, by their cards and marks (document 01, "Slots and registers"; document 02, N3): cards and
 // marks of rows, the rows with them, and what SM?KX, SM?KF and GL?RS leave.
+#![tactic(auto)]
+
 ghost use Rattle.std.specs.Prelude.{◌≡◌, cond, [], map, ◌≤◌, ◌<◌, eqb, length, get_or, set, take, replicate};
 ghost use Rattle.row_types.specs.Lists.{mapped};
 ghost use Rattle.row_types.specs.Registers.{closed_mark};

@@ -1,4 +1,6 @@
 // The fields of the responses of SM?KC, SM?KL and SM?GA (001 clauses 6.3.3, 6.3.5 and 6.3.8).
+#![tactic(auto)]
+
 ghost use Rattle.std.specs.Prelude.{[], ◌∷◌, ◌+◌, ◌≤◌, ◌<◌, length};
 ghost use Rattle.byte_strings.specs.Wrote.{Writes};
 ghost use Rattle.field_values.specs.Values.{number, string, payload_bytes};

@@ -1,4 +1,6 @@
 // The table of the refusals, and the number of each outcome (document 01, "Questions in order").
+#![tactic(auto)]
+
 ghost use Rattle.std.specs.Prelude.{◌≡◌};
 ghost use Rattle.engine.specs.Refusals.{refusal};
 ghost use Rattle.engine.specs.Outcomes.{outcome_number};

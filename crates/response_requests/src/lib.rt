@@ -1,4 +1,6 @@
 // The outcome and the response of a decision (document 01, "Questions in order"; 001 clause 5.3).
+#![tactic(auto)]
+
 ghost use Rattle.std.specs.Prelude.{◌≡◌, ◌+◌, ◌≤◌, length};
 ghost use Rattle.byte_strings.specs.Wrote.{Writes};
 ghost use Rattle.field_values.specs.Values.{payload_bytes};

@@ -1,5 +1,7 @@
 // What is told of one slot, as PTVD fields (001 clauses 6.3.1 and 6.3.2): its identifier, its state, and TVP and
 // fingerprint of a key.
+#![tactic(auto)]
+
 ghost use Rattle.std.specs.Prelude.{cond, [], ◌∷◌, ◌+◌, ◌≤◌, length};
 ghost use Rattle.byte_strings.specs.Wrote.{Writes};
 ghost use Rattle.field_values.specs.Values.{string, octets, field_bytes, payload_bytes};

@@ -1,5 +1,7 @@
 // The fields of SM?GL's response (001 clause 6.3.1): the identifiers of the slots that are not free, in ascending byte
 // sequence (document 02, N1).
+#![tactic(auto)]
+
 ghost use Rattle.std.specs.Prelude.{◌+◌, ◌≤◌, length, take};
 ghost use Rattle.byte_strings.specs.Wrote.{Writes};
 ghost use Rattle.field_values.specs.Values.{payload_bytes};

@@ -1,5 +1,7 @@
 // The fields of SM?KQ's response (001 clause 6.3.2): what a slot holds, and the numbers of the registers that hold its
 // keys. Never a card.
+#![tactic(auto)]
+
 ghost use Rattle.std.specs.Prelude.{[], ◌∷◌, ◌++◌, ◌+◌, ◌≤◌, length, take};
 ghost use Rattle.byte_strings.specs.Wrote.{Writes};
 ghost use Rattle.field_values.specs.Values.{payload_bytes};

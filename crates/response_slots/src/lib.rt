@@ -1,4 +1,6 @@
 // The six fields that SM?KQ tells of one slot (001 clause 6.3.2), in a row.
+#![tactic(auto)]
+
 ghost use Rattle.std.specs.Prelude.{◌+◌, ◌≤◌, length};
 ghost use Rattle.byte_strings.specs.Wrote.{Writes};
 ghost use Rattle.field_values.specs.Values.{payload_bytes};

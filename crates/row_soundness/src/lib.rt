@@ -1,6 +1,8 @@
 // Question 3 (document 01, "Questions in order"): whether the rows are sound. Rows that are sound by themselves are
 // compared by their names and keys alone, and their marks judged by their owners; what is found of the registers serves
 // the questions after it, so that no card is searched again.
+#![tactic(auto)]
+
 ghost use Rattle.std.specs.Prelude.{◌≡◌, true, false, map, ◌≤◌, length, take};
 ghost use Rattle.row_types.specs.Sound.{are_sound};
 ghost use Rattle.row_types.specs.Index.{kept_name, key_number};

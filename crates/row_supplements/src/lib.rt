@@ -1,4 +1,6 @@
 // The supplement, a term of document 01 ("What the caller lends"): whether all of it is well formed (question 4).
+#![tactic(auto)]
+
 ghost use Rattle.std.specs.Prelude.{◌≡◌};
 ghost use Rattle.row_types.specs.Supplements.{is_identity_right, is_load_request_right, is_well_formed};
 

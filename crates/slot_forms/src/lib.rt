@@ -1,5 +1,7 @@
 // What question 3 asks of one slot row (document 01, "Slots and registers"): whether it is free with every byte
 // zero, or filled in form.
+#![tactic(auto)]
+
 ghost use Rattle.std.specs.Prelude.{◌≡◌, cond, ◌&&◌, drop};
 ghost use Rattle.byte_strings.specs.Strings.{is_not, run};
 ghost use Rattle.text_classes.specs.Classes.{are_all};

@@ -1,5 +1,7 @@
 // The slots' names as they are kept, zeros after them (document 01, "Slots and registers"): the number of the one
 // that a name is, and whether no two are one.
+#![tactic(auto)]
+
 ghost use Rattle.std.specs.Prelude.{◌≡◌};
 ghost use Rattle.row_types.specs.Lists.{distinct_rows};
 ghost use Rattle.row_types.specs.Index.{is_called, is_same_name};

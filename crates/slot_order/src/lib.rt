@@ -1,5 +1,7 @@
 // The sequence in which SM?GL lists the slots (document 02, N1): their places, in ascending byte sequence of their
 // names. No row is moved.
+#![tactic(auto)]
+
 ghost use Rattle.std.specs.Prelude.{true, ◌≡◌, ◌+◌, ◌≤◌, ◌<◌, length, drop};
 ghost use Rattle.byte_orders.specs.Orders.{is_before, inserted_by};
 ghost use Rattle.slot_order.specs.Sequences.{name_at, is_before_at, are_below, slot_sequence};

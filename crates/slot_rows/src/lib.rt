@@ -1,4 +1,6 @@
 // One slot row made, and moved to another state (document 01, "Slots and registers").
+#![tactic(auto)]
+
 ghost use Rattle.std.specs.Prelude.{◌≡◌};
 ghost use Rattle.row_types.specs.Lists.{padded};
 ghost use Rattle.row_types.specs.Slots.{free_slot, filled_slot, moved_slot, reset_slot};

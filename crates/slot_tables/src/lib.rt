@@ -1,4 +1,6 @@
 // The table of slots: searches, the test of each row, and the sweep of GL?RS (document 01, "Slots and registers").
+#![tactic(auto)]
+
 ghost use Rattle.std.specs.Prelude.{◌≡◌, map, ◌≤◌, take};
 ghost use Rattle.row_types.specs.Lists.{every_row, first_from, mapped};
 ghost use Rattle.row_types.specs.Slots.{has_state, is_named, is_slot_sound, reset_slot};

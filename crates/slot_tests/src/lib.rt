@@ -1,4 +1,6 @@
 // One slot row (document 01, "Slots and registers"): its state and its name.
+#![tactic(auto)]
+
 ghost use Rattle.std.specs.Prelude.{◌≡◌};
 ghost use Rattle.row_types.specs.Lists.{trimmed};
 ghost use Rattle.row_types.specs.Slots.{state_number, has_state, is_named};

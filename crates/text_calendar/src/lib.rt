@@ -1,5 +1,7 @@
 // Dates and times of day by numbers of two digits: Gregorian, years 1900 to 9999, no leap seconds (document 01, "What
 // the caller lends"; 001 Table 6).
+#![tactic(auto)]
+
 ghost use Rattle.std.specs.Prelude.{◌≡◌, ◌&&◌, ◌+◌, ◌*◌, ◌≤◌, leb};
 ghost use Rattle.text_calendar.specs.Calendar.{is_leap, days_in, is_date, is_time};
 

@@ -1,4 +1,6 @@
 // Text: classes of bytes, and identifiers (document 01, "What the caller lends", "Records", "Cards"; 003 clause 5.1).
+#![tactic(auto)]
+
 ghost use Rattle.std.specs.Prelude.{◌≡◌};
 ghost use Rattle.text_classes.specs.Classes.{within, is_alphanumeric, is_mark, is_of, are_all};
 ghost use Rattle.text_classes.specs.Identifiers.{is_identifier};

@@ -1,5 +1,7 @@
 // Decimal numbers written without leading zero (001 Table 6), by subtraction of powers of ten: the module's processor
 // has no divide instruction (document 02, N4).
+#![tactic(auto)]
+
 ghost use Rattle.std.specs.Prelude.{◌≡◌, true, ◌||◌, ◌+◌, ◌*◌, ◌^◌, ◌<◌, ◌≤◌, leb, eqb, length};
 ghost use Rattle.byte_strings.specs.Wrote.{Writes};
 ghost use Rattle.text_decimal_writer.specs.Digits.{dec_digits, decimal_bytes, long_bytes};

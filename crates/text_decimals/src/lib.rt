@@ -1,4 +1,6 @@
 // Decimal numbers: read, and judged by a range (001 Table 6; document 01, "Checksum and fields", "Cards").
+#![tactic(auto)]
+
 ghost use Rattle.std.specs.Prelude.{◌≡◌, ◌-◌, ◌^◌, ◌≤◌, ◌<◌, length};
 ghost use Rattle.text_decimals.specs.Decimals.{decimal, is_unpadded, is_number};
 

@@ -1,4 +1,6 @@
 // The forms of the values in cards and records (document 01, Records, Cards).
+#![tactic(auto)]
+
 ghost use Rattle.std.specs.Prelude.{◌≡◌};
 ghost use Rattle.text_timestamps.specs.Timestamps.{is_timestamp};
 ghost use Rattle.text_forms.specs.Forms.{is_algorithm, in_form};

@@ -1,4 +1,6 @@
 // Bytes that fit a pattern, byte by byte.
+#![tactic(auto)]
+
 ghost use Rattle.std.specs.Prelude.{◌≡◌, ◌+◌, ◌≤◌, length, drop};
 ghost use Rattle.text_patterns.specs.Patterns.{fits_byte, fits};
 

@@ -1,5 +1,7 @@
 // Timestamps YYYYMMDDThhmmssZ and PTVD dates CCYYMMDDhhmmss: Gregorian, years 1900 to 9999, no leap seconds (document
 // 01; 003 clause 5.1.4; 001 Table 6).
+#![tactic(auto)]
+
 ghost use Rattle.std.specs.Prelude.{◌≡◌, cond, ◌+◌, ◌*◌, ◌≤◌, length, take, drop};
 ghost use Rattle.text_classes.specs.Classes.{are_all};
 ghost use Rattle.text_classes.specs.declared.Class.TheVariants.{Digit};

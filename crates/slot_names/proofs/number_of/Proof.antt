@@ -10,18 +10,18 @@ use borrow.Author.Rules.{rules}
 use Rattle.slot_names.proofs.number_of.Statement.{statement}
 use Rattle.slot_names.proofs.number_of.Tie as tie
 
-abbrev invariant-loop : tie.invariant-loop
-invariant-loop names s i₀ i = (i ≤ length names) × (or_zero (first_from (is_called s) (i + 1) (drop i names)) ≡ number_of (is_called s) names)
+abbrev invariant-loop-i : tie.invariant-loop-i
+invariant-loop-i names s i₀ i = (i ≤ length names) × (or_zero (first_from (is_called s) (i + 1) (drop i names)) ≡ number_of (is_called s) names)
 
-abbrev decreases-loop : tie.decreases-loop
-decreases-loop names s i₀ i = length names - i
+abbrev decreases-loop-i : tie.decreases-loop-i
+decreases-loop-i names s i₀ i = length names - i
 
 pub number_of_spec : {M : Type 1} → statement M
 number_of_spec =
     tie.close
     (tie.spec
-    invariant-loop
-    decreases-loop
+    invariant-loop-i
+    decreases-loop-i
     (λ c. (search rules, refl))
     (λ c. search rules)
     (λ c. search rules)
