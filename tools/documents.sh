@@ -88,7 +88,7 @@ named() {
 crates() {
     sed '/^## Where things are$/,/^## /!d' README.md | grep -oE '`[a-z0-9_]+`' | tr -d '`' |
         sort -u > "$work/listed" || true
-    sed -E '/^ *(#|$)/d; s/:.*//' crates.txt | sort > "$work/crates"
+    sed -E '/^ *(#|$)/d; s/[ :].*//' crates.txt | sort > "$work/crates"
     comm -3 "$work/listed" "$work/crates" |
         sed -E 's/^\t(.*)/README.md: the crate \1 is not listed/; t; s/(.*)/README.md: no crate \1/'
 }
