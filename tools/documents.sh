@@ -112,8 +112,8 @@ wide() {
 
 # The names of the tree's files, and all words of its files but the documents.
 read_tree() {
-    find . \( -name target -o -name .git \) -prune -o -type f -print | sed 's,.*/,,' | sort -u > "$work/files"
-    { LC_ALL=C grep -rohE "$name" --exclude-dir=target --exclude='*.md' --exclude=documents.sh \
+    find . \( -name target -o -name out -o -name .git \) -prune -o -type f -print | sed 's,.*/,,' | sort -u > "$work/files"
+    { LC_ALL=C grep -rohE "$name" --exclude-dir=target --exclude-dir=out --exclude='*.md' --exclude=documents.sh \
           crates crates.txt include callers reference bench tools scripts Makefile
       grep -oE "$name" "$work/files"; } | sort -u > "$work/words"
 }

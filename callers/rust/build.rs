@@ -1,4 +1,4 @@
-//! libdiminurel.a is looked for in the folder DIMINUREL_LIB, or else where `tools/archive.sh diminurel` puts it. It
+//! libdiminurel.a is looked for in the folder DIMINUREL_LIB, or else where `tools/build.sh diminurel` puts it. It
 //! becomes part of this package, which is built anew where the library has changed.
 
 use std::env::var_os;
@@ -15,7 +15,7 @@ fn main() {
     } else {
         println!("cargo::error=there is no {}", library.display());
         println!(
-            "cargo::error=`tools/archive.sh diminurel`, at the top of the repository, puts it into target/staticlib"
+            "cargo::error=`tools/build.sh diminurel`, at the top of the repository, puts it into target/staticlib"
         );
         println!("cargo::error=DIMINUREL_LIB names its folder; where it is not set, it is looked for there");
     }

@@ -193,7 +193,7 @@ echo "divides: wrong sources and libraries are found"
 
 sound_source . | sed 's,^\./,,' || fail 'what the entry points reach divides there, and not by a power of two'
 echo "divides: the source of $(wc -l < "$work/reached") crates divides by powers of two alone"
-[ -n "${DIMINUREL_BUILT:-}" ] || bash tools/archive.sh diminurel
+[ -n "${DIMINUREL_BUILT:-}" ] || bash tools/build.sh diminurel
 sound_library target/staticlib/libdiminurel.a || fail 'the library divides'
 count=$(grep -c $'^ *[0-9a-f]*:\t' "$work/code")
 echo "divides: none of the library's $count instructions divides or takes an inverse, and it calls no routine that does"
