@@ -173,7 +173,7 @@ finds README.md '0,/^(- \*\*[^*]+\*\*: `)[a-z0-9_]+`/s//\1no_crate`/' 'no crate 
 finds README.md '0,/`make [a-z]/s//`make no/' 'no command make no'
 finds README.md '0,/\]\(docs\//s//](docs\/no-/' 'README.md: no docs/no-'
 finds README.md '0,/`scripts\/[a-z]/s//`scripts\/no-/' 'README.md: no scripts/no-'
-finds docs/DECISIONS.md '0,/`([a-z]+[A-Z][A-Za-z0-9]*`)/s//`no\1/' 'nothing in the tree is called no'
+finds docs/DECISIONS.md '0,/`([a-z]+_[a-z]+`)/s//`no_\1/' 'nothing in the tree is called no'
 finds docs/DECISIONS.md '0,/^- /s//- once more the same, and once more the same, and once more the same, /' 'wider than'
 finds docs/TRUST.md 's/^(\| all [0-9]+ files \| )/\11/' 'stated <, counted'
 finds docs/TRUST.md "s/$(cat tools/kit)/& no/" 'the kit is'
