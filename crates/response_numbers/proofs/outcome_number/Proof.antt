@@ -4,10 +4,10 @@ use borrow.Author.Rules.{rules}
 use Rattle.response_numbers.proofs.outcome_number.Statement.{statement}
 use Rattle.response_numbers.proofs.outcome_number.Tie as tie
 
-returns : tie.Need-returns
+returns : tie.Need-returns-in-Accepted
 returns c = search rules
 
-returns_2 : tie.Need-returns-2
+returns_2 : tie.Need-returns-in-Done
 returns_2 c = search rules
 
 pub outcome_number_spec : {M : Type 1} → statement M
