@@ -1,9 +1,10 @@
 # The commands that README.md names.
-.PHONY: help test lib run vectors compare faults fuzz bench way format documents
+.PHONY: help test edits lib run vectors compare faults fuzz bench way format documents
 
 # The default: prints the commands with the time that they take.
 help:
 	@echo 'make test                       all that must hold: documents, proofs, wrong answers, comparisons   23 min'
+	@echo 'make edits CRATES="names"       each wrong answer of these crates, or of all, by its own check          40 min'
 	@echo 'make lib PREFIX=folder          the static library, its header and a pkg-config file          7 min, 5 s'
 	@echo 'make run                        the console on the story of scripts/story.txt                 7 min, 5 s'
 	@echo 'make vectors                    the worked examples of the papers, value by value             4 min, 5 s'
@@ -16,10 +17,13 @@ help:
 	@echo 'make format                     lays the files out                                                   5 s'
 	@echo 'On two cores. Where two times stand, the first is from nothing, the second with all proved already.'
 
-# Holds kit and documents, proves every crate from nothing, tries the must-fail edits, runs the programs and the
-# comparison tests.
+# Holds kit and documents, proves every crate, tries the must-fail edits, runs the programs and the comparison tests.
 test:
 	@bash tools/test.sh
+
+# Holds each wrong answer of the must-fail edits to its own refusal: make edits CRATES="names", or of all crates.
+edits:
+	@bash tools/edits.sh check $(CRATES)
 
 # Proves the engine and puts the static library, its header and a pkg-config file into a folder, target/diminurel unless
 # told otherwise: make lib PREFIX=folder.
@@ -35,7 +39,7 @@ vectors:
 	@bash tools/run.sh case_vectors
 
 format:
-	@rt fmt
+	@for crate in crates/*/; do (cd "$$crate" && rt fmt) || exit 1; done
 
 # Holds the documents to the tree.
 documents:

@@ -1,5 +1,5 @@
 //! libcase_numbers.a, which `numbers` alone needs, is looked for in the folder DIMINUREL_LIB, or else where
-//! `rt staticlib case_numbers` writes it. The program is built anew where the library has changed.
+//! `tools/build.sh case_numbers` puts it. The program is built anew where the library has changed.
 
 use std::env::var_os;
 use std::path::{Path, PathBuf};
@@ -19,7 +19,7 @@ fn main() {
     } else {
         println!("cargo::error=there is no {}", library.display());
         println!(
-            "cargo::error=`rt staticlib case_numbers`, at the top of the repository, writes it to target/staticlib"
+            "cargo::error=`tools/build.sh case_numbers`, at the top of the repository, puts it into target/staticlib"
         );
         println!("cargo::error=DIMINUREL_LIB names its folder; where it is not set, it is looked for there");
     }

@@ -3,7 +3,7 @@
 # in bench/. No figure fails it.
 set -eu -o pipefail
 cd "$(dirname "$0")/.."
-said=$(rt staticlib diminurel 2>&1) || { printf '%s\n' "$said"; exit 1; }
+bash tools/build.sh diminurel
 export DIMINUREL_LIB="$PWD/target/staticlib"
 cd bench
 cargo build --quiet --offline --release

@@ -13,7 +13,8 @@ roots=(crates/diminurel/src/lib.rt crates/demands/specs/Demands.antt crates/dema
 
 # What a file uses of the repository's definitions: a line "crate folder Module" or "crate folder declared.Type" each.
 uses() {
-    sed -nE 's/^(pub |ghost )?use Rattle·([a-z0-9_]+)(·specs)?\.(specs|proofs)\.((declared\.)?[A-Za-z0-9]+).*/\2 \4 \5/p' "$1" |
+    sed -nE 's/^(pub |ghost )?use Rattle\.([a-z0-9_]+)\.(specs|proofs)\.((declared\.)?[A-Za-z0-9]+).*/\2 \3 \4/p' "$1" |
+        grep -v '^\(std\|core\) ' |
         sort -u
 }
 

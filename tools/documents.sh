@@ -88,7 +88,7 @@ named() {
 crates() {
     sed '/^## Where things are$/,/^## /!d' README.md | grep -oE '`[a-z0-9_]+`' | tr -d '`' |
         sort -u > "$work/listed" || true
-    sed -E '/^ *(#|$)/d; s/:.*//' crates.txt | sort > "$work/crates"
+    sed -E '/^ *(#|$)/d; s/[ :].*//' crates.txt | sort > "$work/crates"
     comm -3 "$work/listed" "$work/crates" |
         sed -E 's/^\t(.*)/README.md: the crate \1 is not listed/; t; s/(.*)/README.md: no crate \1/'
 }
@@ -112,8 +112,8 @@ wide() {
 
 # The names of the tree's files, and all words of its files but the documents.
 read_tree() {
-    find . \( -name target -o -name .git \) -prune -o -type f -print | sed 's,.*/,,' | sort -u > "$work/files"
-    { LC_ALL=C grep -rohE "$name" --exclude-dir=target --exclude='*.md' --exclude=documents.sh \
+    find . \( -name target -o -name out -o -name .git \) -prune -o -type f -print | sed 's,.*/,,' | sort -u > "$work/files"
+    { LC_ALL=C grep -rohE "$name" --exclude-dir=target --exclude-dir=out --exclude='*.md' --exclude=documents.sh \
           crates crates.txt include callers reference bench tools scripts Makefile
       grep -oE "$name" "$work/files"; } | sort -u > "$work/words"
 }
@@ -173,7 +173,7 @@ finds README.md '0,/^(- \*\*[^*]+\*\*: `)[a-z0-9_]+`/s//\1no_crate`/' 'no crate 
 finds README.md '0,/`make [a-z]/s//`make no/' 'no command make no'
 finds README.md '0,/\]\(docs\//s//](docs\/no-/' 'README.md: no docs/no-'
 finds README.md '0,/`scripts\/[a-z]/s//`scripts\/no-/' 'README.md: no scripts/no-'
-finds docs/DECISIONS.md '0,/`([a-z]+[A-Z][A-Za-z0-9]*`)/s//`no\1/' 'nothing in the tree is called no'
+finds docs/DECISIONS.md '0,/`([a-z]+_[a-z]+`)/s//`no_\1/' 'nothing in the tree is called no'
 finds docs/DECISIONS.md '0,/^- /s//- once more the same, and once more the same, and once more the same, /' 'wider than'
 finds docs/TRUST.md 's/^(\| all [0-9]+ files \| )/\11/' 'stated <, counted'
 finds docs/TRUST.md "s/$(cat tools/kit)/& no/" 'the kit is'

@@ -4,7 +4,7 @@
 # Without a seed the clock gives one. It is printed first, and repeats the run.
 set -eu -o pipefail
 cd "$(dirname "$0")/.."
-rt staticlib diminurel | grep -E '^rt: '
+bash tools/build.sh diminurel
 export DIMINUREL_LIB="$PWD/target/staticlib"
 cd reference
 cargo build --quiet --offline --release --features engine --bin compare

@@ -6,7 +6,7 @@ set -eu -o pipefail
 top=$(cd "$(dirname "$0")/.." && pwd)
 folder=${1:-$top/target/diminurel}
 mkdir -p "$folder/include" "$folder/lib/pkgconfig"
-[ -n "${DIMINUREL_BUILT:-}" ] || (cd "$top" && rt staticlib diminurel) | grep -E '^rt: '
+[ -n "${DIMINUREL_BUILT:-}" ] || bash "$top/tools/build.sh" diminurel
 install -m 644 "$top/include/diminurel.h" "$folder/include/"
 install -m 644 "$top/target/staticlib/libdiminurel.a" "$folder/lib/"
 cat > "$folder/lib/pkgconfig/diminurel.pc" << END

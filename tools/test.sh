@@ -1,34 +1,14 @@
 #!/usr/bin/env bash
 # The test command. Steps in order: the kit is the one that is pinned and the documents name what is there (tools/kit,
-# tools/documents.sh); `rt ci`; each wrong answer was refused as its edit says (tools/edits.sh); the comparison tests of
-# tools/compare, which are named here. rt's own line `N passed, 0 failed` is the last line printed, and only where every
-# step passed.
+# tools/documents.sh); `rt ci`, with no bad edit; each edit was refused as it says (tools/edits.sh said); the comparison
+# tests of tools/compare, which are named here. What rt counts, `N passed, 0 failed`, is the last line printed, and only
+# where every step passed.
 set -u -o pipefail
 top=$(cd "$(dirname "$0")/.." && pwd)
 comparisons=(callers.sh console.sh divides.sh engine.sh faults.sh library.sh numbers.sh)
 
-# The checker copies what a crate depends on into TMPDIR, hundreds of megabytes a check: memory is quicker, where it
-# can be written, runs programs (rt runs them there as nobody) and has 2 GB free.
-in_memory() {
-    local folder=/dev/shm probe free status=0
-    [ -d "$folder" ] && [ -w "$folder" ] || return 1
-    free=$(df -Pk "$folder" | awk 'NR == 2 { print $4 }')
-    [ "${free:-0}" -ge 2000000 ] || return 1
-    probe=$(mktemp "$folder/probe.XXXXXX") || return 1
-    { printf '#!/bin/sh\n' >"$probe" && chmod +x "$probe" && "$probe"; } 2>/dev/null || status=1
-    rm -f "$probe"
-    return $status
-}
-if in_memory; then export TMPDIR=/dev/shm; fi
-
-# rt waits for all checks that it started together before it starts the next ones. With three on two processors hardly
-# one idles beside a long one; four take longer again, since each takes up to 1.5 GB, and 0.4 GB of TMPDIR. Alone, a
-# check takes two thirds of what is printed.
-free=$(awk '/^MemAvailable:/ { print $2 }' /proc/meminfo 2>/dev/null || true)
-if [ -z "${RT_JOBS:-}" ] && [ "$(nproc)" -eq 2 ] && [ "${free:-0}" -ge 6000000 ]; then export RT_JOBS=3; fi
-
-# Runs the steps with the commands given: $1 looks at kit and documents, $2 proves, $3 reads the edits' logs, $4
-# compares. The last line of $2 is kept for the end.
+# Runs the steps with the commands given: $1 looks at kit and documents, $2 proves, $3 reads of the edits in the log that
+# it is handed, $4 compares. What $2 counts in its last line is kept for the end.
 steps() {
     local log status last
     if ! "$1"; then
@@ -36,7 +16,7 @@ steps() {
         return 1
     fi
     log=$(mktemp)
-    "$2" 2>&1 | tee "$log" | grep --line-buffered -E '^rt: |: error|passed, ' | grep --line-buffered -v 'passed, '
+    "$2" 2>&1 | tee "$log" | grep --line-buffered -E '^rt: |: error' | sed -uE 's/^(.{300}).*/\1/'
     status=${PIPESTATUS[0]}
     last=$(tail -n 1 "$log")
     if [ "$status" -ne 0 ] || ! [[ $last =~ ^[0-9]+\ passed,\ 0\ failed$ ]]; then
@@ -45,11 +25,17 @@ steps() {
         echo "test: the proofs failed (status $status)"
         return 1
     fi
-    rm -f "$log"
-    if ! "$3"; then
-        echo "test: a wrong answer was not refused as its edit says"
+    if ! is_ok "$log"; then
+        rm -f "$log"
+        echo "test: there are bad edits, or rt does not say how many edits it refused"
         return 1
     fi
+    if ! "$3" "$log"; then
+        rm -f "$log"
+        echo "test: an edit was not refused as it says"
+        return 1
+    fi
+    rm -f "$log"
     if ! "$4"; then
         echo "test: a comparison test failed"
         return 1
@@ -57,13 +43,20 @@ steps() {
     echo "$last"
 }
 
+# Whether rt says in the log $1 that all is well, that edits were refused, and of none that it is bad.
+is_ok() {
+    local line
+    line=$(grep '^rt: ok; ' "$1" | grep -oE 'must-fail edits: [^;]*') || return 1
+    [[ $line =~ ^'must-fail edits: '[1-9][0-9]*' refused' && $line != *' bad'* ]]
+}
+
 # The kit $1 is the one that the file $2 pins.
 same_kit() { [ "$1" = "$(cat "$2")" ] || { echo "test: the kit is '$1', and $2 pins '$(cat "$2")'"; return 1; }; }
 
 look() { same_kit "$(rt version)" "$top/tools/kit" && bash "$top/tools/documents.sh"; }
 prove() { (cd "$top" && rt ci); }
-edits() { bash "$top/tools/edits.sh"; }
-archive() { (cd "$top" && rt staticlib "$1") | grep -E '^rt: '; }
+edits() { bash "$top/tools/edits.sh" said "$1"; }
+archive() { bash "$top/tools/build.sh" "$1"; }
 compare() { archive diminurel && archive case_numbers && compare_in "$top/tools/compare"; }
 
 # Runs the comparison tests of the folder $1: just those that are named above, neither fewer nor more. They take the
@@ -86,9 +79,14 @@ compare_in() {
 }
 
 # The runner is tried with failing steps first: each must fail, and none may end in a line that reads as a pass.
-good() { echo '1 passed, 0 failed'; }
-bad_status() { echo '1 passed, 0 failed'; return 1; }
-bad_line() { echo '1 passed, 1 failed'; }
+ok() { echo "rt: ok; handles allowed: none; must-fail edits: $1; every proof was done in this run"; }
+good() { ok '2 refused'; echo '1 passed, 0 failed'; }
+some() { ok '2 refused'; echo '1 passed, 0 failed (c and the crates below alone: not the gate)'; }
+bad_status() { good; return 1; }
+bad_line() { ok '2 refused'; echo '1 passed, 1 failed'; }
+bad_edit() { ok '2 refused, 1 bad'; echo '1 passed, 0 failed'; }
+no_edit() { echo 'rt: ok; handles allowed: none; done in this run'; echo '1 passed, 0 failed'; }
+not_ok() { echo '1 passed, 0 failed'; }
 silent() { :; }
 refuses() {
     local out
@@ -101,6 +99,10 @@ refuses() {
 refuses false good true true
 refuses true bad_status true true
 refuses true bad_line true true
+refuses true some true true
+refuses true bad_edit true true
+refuses true no_edit true true
+refuses true not_ok true true
 refuses true silent true true
 refuses true good false true
 refuses true good true false

@@ -52,7 +52,7 @@ reached | sort | awk '
     END { printf "\nSM?KL: %d functions in %d crates\n\n", NR, crates }'
 
 # The calls of the C library in a copy of the static library go to functions of bench/ that count.
-said=$(rt staticlib diminurel 2>&1) || { printf '%s\n' "$said"; exit 1; }
+bash tools/build.sh diminurel
 export DIMINUREL_LIB="$PWD/bench/target/counted"
 mkdir -p "$DIMINUREL_LIB"
 objcopy --redefine-sym memcpy=counted_memcpy --redefine-sym memmove=counted_memmove \

@@ -1,4 +1,4 @@
-//! libdiminurel.a is looked for in the folder DIMINUREL_LIB, or else where `rt staticlib diminurel` writes it. It
+//! libdiminurel.a is looked for in the folder DIMINUREL_LIB, or else where `tools/build.sh diminurel` puts it. It
 //! becomes part of this package, which is built anew where the library has changed.
 
 use std::env::var_os;
@@ -14,7 +14,9 @@ fn main() {
         println!("cargo::rustc-link-search=native={}", folder.display());
     } else {
         println!("cargo::error=there is no {}", library.display());
-        println!("cargo::error=`rt staticlib diminurel`, at the top of the repository, writes it to target/staticlib");
+        println!(
+            "cargo::error=`tools/build.sh diminurel`, at the top of the repository, puts it into target/staticlib"
+        );
         println!("cargo::error=DIMINUREL_LIB names its folder; where it is not set, it is looked for there");
     }
 }

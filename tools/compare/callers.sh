@@ -25,7 +25,7 @@ wrapper() { (cd callers/rust && DIMINUREL_LIB=$1 cargo "${@:2}" --quiet --offlin
 
 export CARGO_TARGET_DIR="$work/rust"
 if wrapper "$work" build 2> "$work/said"; then fail "the wrapper is built without a library"; fi
-grep -q 'rt staticlib diminurel' "$work/said" || fail "the wrapper's build does not say what to run"
+grep -q 'tools/build.sh diminurel' "$work/said" || fail "the wrapper's build does not say what to run"
 "${compiler[@]}" -c tools/compare/refuses.c -o "$work/refuses.o"
 ar rcs "$work/libdiminurel.a" "$work/refuses.o"
 for each in example any_bytes; do
@@ -42,7 +42,7 @@ done
 unset CARGO_TARGET_DIR
 echo "callers: their tests fail with a library that refuses everything"
 
-[ -n "${DIMINUREL_BUILT:-}" ] || rt staticlib diminurel | grep -E '^rt: '
+[ -n "${DIMINUREL_BUILT:-}" ] || bash tools/build.sh diminurel
 for each in example any_bytes; do
     built "$each" target/staticlib
     as_expected "$each"

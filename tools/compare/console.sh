@@ -2,7 +2,8 @@
 # Compares a console with the second implementation's on scripts: tools/compare/console.sh PROGRAM SCRIPTS..
 # What they print is compared as it is. A line `show` is handed in as a comment, since it is text for people. Without
 # arguments the comparison tries itself, and then compares the console of crates/ on the repository's scripts and on
-# random ones; what it prints on the former is held to their files, too.
+# random ones; what it prints on the former is held to their files, too. The console is built first, unless
+# DIMINUREL_BUILT says that it is.
 set -eu -o pipefail
 top=$(cd "$(dirname "$0")/../.." && pwd)
 (cd "$top/reference" && cargo build --quiet --offline --release --bin console --bin random_script)
@@ -60,9 +61,10 @@ finds "sed 's/^/ /'"
 finds "{ cat; exit 1; }"
 echo "console: the comparison finds wrong consoles"
 
-(cd "$top" && rt check console) | grep -E '^rt: (console|ok)'
+program=$top/crates/console/out/console
+[ -n "${DIMINUREL_BUILT:-}" ] || bash "$top/tools/build.sh" console
 for script in "$top"/scripts/*.txt; do
-    LC_ALL=C sed 's/^show$/#/' "$script" | "$top/target/bin/console" |
+    LC_ALL=C sed 's/^show$/#/' "$script" | "$program" |
         diff --text "${script%.txt}.out" - > "$work/difference" || {
         echo "$script: stored <, printed >"
         head -n 20 "$work/difference"
@@ -71,4 +73,4 @@ for script in "$top"/scripts/*.txt; do
 done
 echo "console: what it prints on the repository's scripts is what stands beside them"
 for seed in $(seq 20); do "$built/random_script" "$seed" 3000 > "$work/random-$seed.txt"; done
-compare "$top/target/bin/console" "$top"/scripts/*.txt "$work"/random-*.txt
+compare "$program" "$top"/scripts/*.txt "$work"/random-*.txt

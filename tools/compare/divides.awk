@@ -2,22 +2,31 @@
 # where it is no literal alone or a function divides. Comments, `ghost use` items, contract text and texts are no
 # source. It fails where the end of a file is inside of one of these.
 
-# What is source of a line. The state `within` is the pattern of what ends a text, a contract or a `ghost use`.
+# What is source of a line. The state `within` is the pattern of what ends a text or a `ghost use`, and `open` counts the
+# brackets of a clause that are open.
 function bare(line,    left, found) {
     while (line != "") {
+        if (open) {
+            if (!match(line, /"([^"\\]|\\.)*"|[{}]/)) return left
+            found = substr(line, RSTART, RLENGTH)
+            line = substr(line, RSTART + RLENGTH)
+            if (found == "{") open++
+            else if (found == "}") open--
+            continue
+        }
         if (within != "") {
             if (!match(line, within)) return left
             within = ""
             line = substr(line, RSTART + RLENGTH)
             continue
         }
-        if (!match(line, /\/\/|b'(\\.[^']*|[^'\\])'|"|⌜|^ *ghost use /)) return left line
+        if (!match(line, /\/\/|b'(\\.[^']*|[^'\\])'|"|^ *(requires|ensures)( +[a-z0-9_]+)? *[{]|^ *ghost use /)) return left line
         found = substr(line, RSTART, RLENGTH)
         left = left substr(line, 1, RSTART - 1)
         line = substr(line, RSTART + RLENGTH)
         if (found == "//") return left
         if (found == "\"") within = "^([^\"\\\\]|\\\\.)*\""
-        else if (found == "⌜") within = "⌝"
+        else if (found ~ /[{]$/) open = 1
         else if (found ~ /use/) within = ";"
         else left = left "b" # a byte is no literal to divide by
     }
@@ -56,11 +65,12 @@ function look(line,    rest, word, before) {
 # Of the file that has been read.
 function look_all(    line) {
     for (line = 1; line <= count; line++) look(line)
-    if (within != "") {
+    if (within != "" || open) {
         print file ": its end is inside of a text, a contract or a ghost use" > "/dev/stderr"
         bad = 1
     }
     within = ""
+    open = 0
 }
 
 BEGIN { named = "(^|_)([us]?div|rem|mod|divide|divmod|divrem|modulo|quotient|remainder|euclid|multiple)[0-9]*(_|$)" }

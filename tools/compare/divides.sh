@@ -23,7 +23,7 @@ reached() {
             for (i = 1; i <= count; i++) reach(below[i])
         }
         { sub(/#.*/, "") }
-        split($0, parts, ":") == 2 { gsub(/ /, "", parts[1]); depends[parts[1]] = parts[2] }
+        split($0, parts, ":") == 2 { sub(/ .*/, "", parts[1]); depends[parts[1]] = parts[2] }
         END { reach("diminurel"); exit bad }' "$1/crates.txt"
 }
 
@@ -94,7 +94,7 @@ source=$tree/crates/below/src/lib.rt
 plant() {
     rm -rf "$tree"
     mkdir -p "$tree"/crates/{diminurel,below,beside}/src
-    printf '%s\n' '# Layers' 'below:' 'diminurel: below # the entry points' 'beside: below' > "$tree/crates.txt"
+    printf '%s\n' '# Layers' 'below:' 'diminurel staticlib: below # the entry points' 'beside: below' > "$tree/crates.txt"
     echo 'pub fn high(n: u64) -> u64 { n / 65536 }' > "$tree/crates/diminurel/src/lib.rt"
     echo 'pub fn tens(n: u64) -> u64 { n / 10 }' > "$tree/crates/beside/src/lib.rt"
     printf '%s\n' "$1" > "$source"
@@ -125,13 +125,15 @@ wrong=(
     'Div::div(n, 8)' 'let f = u32::saturating_div;'
     "if b == b'/' { n / 10 }" "if b == b'\\'' { n / 10 }" "if b == b'\"' { n / 10 }"
     'put(b"//", n % 10)' 'put(b"\"%", n % 10)'
-    '⌜ n ⌝ n / 10 ⌜ n ⌝' $'ensures { ⌜ r ≡ n / 10\n    + n % 10 ⌝ }\n    n / 10'
+    $'    ensures { result ≡ n / 10\n    + n % 10 }\n    n / 10' $'ensures low { IfOk r { n } }\nn / 10'
+    $'requires { text "}" }\nn / 10' 'ensures { n } n / 10' 'self.requires / { n }'
     $'ghost use Nat.{_+_,\n    _/_};\nn % 10' $'// a / b\nn / 10'
 )
 right=(
     'n / 256 % 256' 'n % 0x100' '(n / 0016) as u16' 'n / 72057594037927936' 'n / 9_223_372_036_854_775_808'
     'n % 0x8000_0000_0000_0000' 'n /= 2;' 'match n % 4 {' $'let a = n /\n    // of two\n    2;'
-    '// a / b' 'f(n); // a % b' 'ensures { λ r. ⌜ r ≡ n / 10 ⌝ }' $'ensures { ⌜ r ≡ n / 10\n    + n % 10 ⌝ }'
+    '// a / b' 'f(n); // a % b' 'ensures { result ≡ n / 10 }' $'ensures { result ≡ n / 10\n    + n % 10 }'
+    '    requires tens { record { low : n % 10 } }' $'ensures {\n    text "}" ≡ n / 10 }'
     'ghost use Nat.{_+_, _/_, _%_};' $'ghost use Nat.{_+_,\n    _/_};'
     "a == b'/' || a == b'%'" "b'\\'' == b'/'" 'say(b"5 % of \"a / b\"")'
     'check_sums::crc_modbus(read_module(modes))' 'let rem = n - ten;'
@@ -152,7 +154,7 @@ plant 'n / 16'
 mkdir "$tree/crates/below/src/deep"
 echo 'n / 10' > "$tree/crates/below/src/deep/tens.rt"
 finds_tree 'below/src/deep/tens.rt:1: n / 10'
-plant 'ensures { ⌜ n / 10'
+plant 'ensures { n / 10'
 finds_tree 'its end is inside'
 rm "$source"
 finds_tree 'the crate below has no source'
@@ -191,7 +193,7 @@ echo "divides: wrong sources and libraries are found"
 
 sound_source . | sed 's,^\./,,' || fail 'what the entry points reach divides there, and not by a power of two'
 echo "divides: the source of $(wc -l < "$work/reached") crates divides by powers of two alone"
-[ -n "${DIMINUREL_BUILT:-}" ] || rt staticlib diminurel | grep -E '^rt: '
+[ -n "${DIMINUREL_BUILT:-}" ] || bash tools/build.sh diminurel
 sound_library target/staticlib/libdiminurel.a || fail 'the library divides'
 count=$(grep -c $'^ *[0-9a-f]*:\t' "$work/code")
 echo "divides: none of the library's $count instructions divides or takes an inverse, and it calls no routine that does"

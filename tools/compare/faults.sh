@@ -6,7 +6,7 @@
 set -eu -o pipefail
 top=$(cd "$(dirname "$0")/../.." && pwd)
 every=${1:-}
-if [ -n "$every" ]; then (cd "$top" && rt staticlib diminurel) | grep -E '^rt: '; fi
+if [ -n "$every" ]; then bash "$top/tools/build.sh" diminurel; fi
 export DIMINUREL_LIB="$top/target/staticlib"
 work=$(mktemp -d)
 trap 'rm -rf "$work"' EXIT

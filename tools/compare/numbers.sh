@@ -14,8 +14,8 @@ if CARGO_TARGET_DIR=$work/target built "$work" 2> "$work/said"; then
     echo "numbers: the program is built without a library"
     exit 1
 fi
-grep -q 'rt staticlib case_numbers' "$work/said" || { echo "numbers: its build does not say what to run"; exit 1; }
+grep -q 'tools/build.sh case_numbers' "$work/said" || { echo "numbers: its build does not say what to run"; exit 1; }
 
-[ -n "${DIMINUREL_BUILT:-}" ] || rt staticlib case_numbers | grep -E '^rt: '
+[ -n "${DIMINUREL_BUILT:-}" ] || bash tools/build.sh case_numbers
 built "$PWD/target/staticlib"
 reference/target/release/numbers

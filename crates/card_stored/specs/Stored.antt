@@ -1,6 +1,7 @@
 -- The stored card, which has fifteen attributes and SGN where the incoming card has it, and the test of a card as
 -- stored (document 01, Cards and question 3; document 02, N2).
-use Rattle.std.specs.Prelude.{ℕ, ◌-◌, Bool, true, false, cond, ◌&&◌, ◌||◌, List, [], ◌∷◌, ◌++◌, eqb, length, take, drop, replicate}
+use Rattle.std.specs.Prelude.{ℕ, ◌-◌, Bool, true, false, cond, ◌&&◌, ◌||◌, List, [], ◌∷◌, ◌++◌, eqb}
+use Rattle.std.specs.Prelude.{length, take, drop, replicate}
 use Rattle.byte_strings.specs.Texts.{text, all}
 use Rattle.byte_strings.specs.Strings.{run, is_not}
 use Rattle.byte_strings.specs.Lists.{rows_that}

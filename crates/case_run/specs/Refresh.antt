@@ -39,7 +39,8 @@ vending stage first second = record { stage = stage; first = first; second = sec
 abbrev pub refresh : List Vending
 refresh =
     vending (stage start_a (kc a ⇒ done) (keys (slot_a Pending clock) (closed_row (filled_register card_a)))) true true
-    ∷ vending (stage response_a (kr a ⇒ done) (keys (slot_a Loading []) (closed_row (filled_register card_a)))) true true
+    ∷ vending (stage response_a (kr a ⇒ done) (keys (slot_a Loading []) (closed_row (filled_register card_a))))
+    true true
     ∷ vending
     (stage load_a (kl a group revision ⇒ loaded 1 (in_row card_a)) (keys (slot_a Loading []) (filled_register card_a)))
     false true

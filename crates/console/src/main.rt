@@ -4,7 +4,8 @@
 
 use console_input::Pending;
 use console_state::Console;
-use libc::{STDIN_FILENO, STDOUT_FILENO};
+use std::io;
+use std::io::Read;
 
 // The console, the line that is being read, and its number.
 #[derive(Clone, Copy)]
@@ -15,7 +16,7 @@ struct Session {
 }
 
 // Takes the line that was read, and writes what it prints.
-fn take_line(s: Session) -> Session {
+fn take_line(rt: &impl Print, s: Session) -> io::Result<Session> {
     let mut out = [0u8; 20480];
     let p = s.pending;
     let bytes = p.bytes;
@@ -26,13 +27,13 @@ fn take_line(s: Session) -> Session {
         byte_strings::front(&bytes, n),
         &mut out,
     );
-    io::write_all(STDOUT_FILENO, byte_strings::front(&out, stepped.length));
+    rt.write_all(byte_strings::front(&out, stepped.length))?;
     let console = stepped.console;
-    Session {
+    Ok(Session {
         console,
         pending: console_input::nothing(),
         number: console_input::next_number(s.number),
-    }
+    })
 }
 
 // Adds bytes to the line that is being read.
@@ -43,18 +44,18 @@ fn add(s: Session, more: &[u8]) -> Session {
 }
 
 // Takes each line that ends in what was read, and keeps what follows the last.
-fn take_lines(s: Session, read: &[u8]) -> Session {
+fn take_lines(rt: &impl Print, s: Session, read: &[u8]) -> io::Result<Session> {
     let mut t = s;
     let mut at = 0;
     while at < read.len() {
         let e = byte_pieces::piece_end(read, at, b'\n');
         t = add(t, &read[at..e]);
         if e < read.len() {
-            t = take_line(t);
+            t = take_line(rt, t)?;
         }
         at = e + 1;
     }
-    t
+    Ok(t)
 }
 
 // What was read, and whether there was anything to read.
@@ -65,43 +66,45 @@ struct Taken {
 }
 
 // Reads once, and takes the lines that end in it.
-fn read_some(s: Session) -> Taken {
-    let mut space = io::large_buffer();
-    let got = libc::read(STDIN_FILENO, &mut space);
-    let n = io::count(got, &space);
-    let session = take_lines(s, &space[..n]);
-    Taken {
+fn read_some<R: Read>(rt: &impl Print, input: &mut R, s: Session) -> io::Result<Taken> {
+    let mut space = [0u8; 65536];
+    let n = input.read(&mut space)?;
+    let session = take_lines(rt, s, &space[..n])?;
+    Ok(Taken {
         session,
         more: 0 < n,
-    }
+    })
 }
 
-// Reads to the end. Nothing says that an input ends, so the turns are counted down from a number that no run uses up.
-fn read_all(start: Session) -> Session {
+// Reads to the end. Nothing says that an input ends, so the turns are counted, up to a number that no run uses up.
+fn read_all<R: Read>(rt: &impl Print, input: &mut R, start: Session) -> io::Result<Session> {
     let mut s = start;
-    let mut turns: u64 = 18446744073709551615;
-    while 0 < turns {
-        let taken = read_some(s);
+    for _ in 0..u64::MAX {
+        let taken = read_some(rt, input, s)?;
         let session = taken.session;
         s = session;
         if !taken.more {
-            return s;
+            return Ok(s);
         }
-        turns -= 1;
     }
-    s
+    Ok(s)
 }
 
-fn main() {
+fn main(rt: HostRuntime) -> io::Result<()> {
     let console = console_state::start();
     let pending = console_input::nothing();
-    let s = read_all(Session {
-        console,
-        pending,
-        number: 1,
-    });
+    let s = read_all(
+        &rt,
+        &mut rt.stdin(),
+        Session {
+            console,
+            pending,
+            number: 1,
+        },
+    )?;
     let p = s.pending;
     if 0 < p.length {
-        take_line(s);
+        take_line(&rt, s)?;
     }
+    Ok(())
 }

@@ -122,4 +122,5 @@ abbrev pub start_request : List ℕ
 start_request = text "VKLOAD.REQ.1"
 
 unfoldable pub start_supplement : Supplement
-start_supplement = with_part LoadRequest start_request (with_part Identity start_identity (with_part Clock start_clock blank))
+start_supplement =
+    with_part LoadRequest start_request (with_part Identity start_identity (with_part Clock start_clock blank))

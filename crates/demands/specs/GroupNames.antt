@@ -7,7 +7,8 @@ use Rattle.message_commands.specs.declared.Command.TheVariants.{KL, GA}
 use Rattle.message_replies.specs.Responses.{fields_of}
 use Rattle.history.specs.History.{Never}
 use Rattle.history.specs.Demand3.{Load, Deletion}
-use Rattle.engine.specs.Requests.{command_in, fields_in, record_in, slot_in, card_in, register_in, first_text, second_text}
+use Rattle.engine.specs.Requests.{command_in, fields_in, record_in, slot_in, card_in, register_in}
+use Rattle.engine.specs.Requests.{first_text, second_text}
 use Rattle.engine.specs.Questions.{group_in, revision_in, register_numbered}
 use Rattle.engine.specs.Words.{Lent, empty_rows}
 use Rattle.entry_contracts.specs.Handles.{Run, Handles}

@@ -25,7 +25,8 @@ slots_after Reset n l x vs = mapped n reset_slot l  -- GL?RS: PENDING and LOADIN
 slots_after (Start k) n l x vs = set l k (pending_row x.clock vs)  -- SM?KC: PENDING, with the clock as TVP
 slots_after (Open k) n l x vs = set l k (moved_slot Loading (get_or l k free_slot))  -- SM?KR: PENDING becomes LOADING
 slots_after (Load k) n l x vs = l
-slots_after (Close k) n l x vs = set l k (moved_slot Idle (get_or l k free_slot))  -- SM?KF: PENDING or LOADING becomes IDLE
+-- SM?KF: PENDING or LOADING becomes IDLE
+slots_after (Close k) n l x vs = set l k (moved_slot Idle (get_or l k free_slot))
 slots_after (DeleteSlot k) n l x vs = set l k free_slot  -- SM?KX: the row becomes free
 slots_after (DeleteKey k) n l x vs = l
 slots_after (GetCard k) n l x vs = l
@@ -38,9 +39,11 @@ registers_after (Refuse r) m l x vs = l
 registers_after Reset m l x vs = mapped m closed_row l  -- GL?RS: every key is closed
 registers_after (Start k) m l x vs = l
 registers_after (Open k) m l x vs = l
-registers_after (Load k) m l x vs = set l k (filled_register (card_of x vs))  -- SM?KL: the key goes to the register, open
+-- SM?KL: the key goes to the register, open
+registers_after (Load k) m l x vs = set l k (filled_register (card_of x vs))
 registers_after (Close k) m l x vs = mapped m (closed_under (first_text vs)) l  -- SM?KF: just those whose KSL is it
-registers_after (DeleteSlot k) m l x vs = mapped m (without_slot (first_text vs)) l  -- SM?KX: just those whose KSL is it
+-- SM?KX: just those whose KSL is it
+registers_after (DeleteSlot k) m l x vs = mapped m (without_slot (first_text vs)) l
 registers_after (DeleteKey k) m l x vs = set l k free_register  -- SM?KD: that register becomes free
 registers_after (GetCard k) m l x vs = l
 registers_after ListSlots m l x vs = l

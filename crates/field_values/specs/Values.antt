@@ -1,5 +1,6 @@
 -- PTVD fields (001 clause 5.4, Table 6), as document 01 narrows them: what a payload says, and how it is written.
-use Rattle.std.specs.Prelude.{ℕ, ◌+◌, ◌%◌, Bool, true, false, cond, ◌&&◌, List, [], ◌∷◌, ◌++◌, map, eqb, leb, length, drop}
+use Rattle.std.specs.Prelude.{ℕ, ◌+◌, ◌%◌, Bool, true, false, cond, ◌&&◌, List, [], ◌∷◌, ◌++◌, map}
+use Rattle.std.specs.Prelude.{eqb, leb, length, drop}
 use Prim.Native.Char.{code}
 use Rattle.byte_strings.specs.Strings.{is_not, run}
 use Rattle.byte_strings.specs.Texts.{all}

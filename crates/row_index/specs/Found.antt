@@ -1,5 +1,5 @@
--- What question 3 finds of the registers: the key of each as a number (key_number of `row_types`), and the number of the
--- slot that owns it.
+-- What question 3 finds of the registers: the key of each as a number (key_number of `row_types`), and the number of
+-- the slot that owns it.
 use Rattle.std.specs.Prelude.{ℕ, ◌≡◌, Bool, true, cond, List, map, eqb}
 use Rattle.std.proofs.Math.Option.{Option, none, some}
 use Rattle.card_attributes.specs.Table.{KSL}

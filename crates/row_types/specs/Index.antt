@@ -31,7 +31,8 @@ is_owned_by names r = is_vacant r || some_row (is_called (attribute_of KSL r)) n
 
 -- SGC and KRN as one number: ten digits, then one; 0 of a free row
 unfoldable pub key_number : RegisterRow → ℕ
-key_number r = cond (is_vacant r) 0 (decimal (take 10 (attribute_of SGC r)) * 10 + decimal (take 1 (attribute_of KRN r)))
+key_number r =
+    cond (is_vacant r) 0 (decimal (take 10 (attribute_of SGC r)) * 10 + decimal (take 1 (attribute_of KRN r)))
 
 -- two rows with these numbers hold one key
 unfoldable pub is_same_number : ℕ → ℕ → Bool

@@ -9,18 +9,18 @@ use Rattle.console_octets.proofs.OctetLaws.{digits_length, digits_turn, digits_e
 use Rattle.console_octets.proofs.put_digits.Statement.{statement}
 use Rattle.console_octets.proofs.put_digits.Tie as tie
 
-abbrev invariant-loop : tie.invariant-loop
-invariant-loop dst₀ at s o₀ j₀ dst o j = (j ≤ length s) × (o ≡ at + (j + j)) × (length dst ≡ length dst₀) × (sets dst o (digits_of (drop j s)) ≡ sets dst₀ at (digits_of s))
+abbrev invariant-loop-j : tie.invariant-loop-j
+invariant-loop-j dst₀ at s o₀ j₀ dst o j = (j ≤ length s) × (o ≡ at + (j + j)) × (length dst ≡ length dst₀) × (sets dst o (digits_of (drop j s)) ≡ sets dst₀ at (digits_of s))
 
-abbrev decreases-loop : tie.decreases-loop
-decreases-loop dst₀ at s o₀ j₀ dst o j = length s - j
+abbrev decreases-loop-j : tie.decreases-loop-j
+decreases-loop-j dst₀ at s o₀ j₀ dst o j = length s - j
 
 pub put_digits_spec : {M : Type 1} → statement M
 put_digits_spec =
     tie.close
     (tie.spec
-    invariant-loop
-    decreases-loop
+    invariant-loop-j
+    decreases-loop-j
     (λ c. (search rules, search rules, refl, refl))
     (λ c. search rules)
     (λ c κs. search rules)

@@ -9,19 +9,19 @@ use Rattle.console_octets.proofs.OctetLaws.{octets_turn, octets_ended, count_tur
 use Rattle.console_octets.proofs.put_octets.Statement.{statement}
 use Rattle.console_octets.proofs.put_octets.Tie as tie
 
-abbrev invariant-loop : tie.invariant-loop
-invariant-loop dst₀ s n₀ i₀ dst n i =
+abbrev invariant-loop-i : tie.invariant-loop-i
+invariant-loop-i dst₀ s n₀ i₀ dst n i =
     (i ≤ length s) × (i ≡ n + n) × (length dst ≡ length dst₀) × (n + length (octets_of (drop i s)) ≡ 0 + length (octets_of s)) × (sets dst n (octets_of (drop i s)) ≡ sets dst₀ 0 (octets_of s))
 
-abbrev decreases-loop : tie.decreases-loop
-decreases-loop dst₀ s n₀ i₀ dst n i = length s - i
+abbrev decreases-loop-i : tie.decreases-loop-i
+decreases-loop-i dst₀ s n₀ i₀ dst n i = length s - i
 
 pub put_octets_spec : {M : Type 1} → statement M
 put_octets_spec =
     tie.close
     (tie.spec
-    invariant-loop
-    decreases-loop
+    invariant-loop-i
+    decreases-loop-i
     (λ c. (search rules, search rules, refl, refl, refl))
     (λ c. search rules)
     (λ c. search rules)

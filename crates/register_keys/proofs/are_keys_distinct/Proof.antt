@@ -9,26 +9,26 @@ use borrow.Author.Rules.{rules}
 use Rattle.register_keys.proofs.are_keys_distinct.Statement.{statement}
 use Rattle.register_keys.proofs.are_keys_distinct.Tie as tie
 
-abbrev invariant-loop2 : tie.invariant-loop2
-invariant-loop2 keys i a j₀ j = (i < length keys) × (j ≤ length keys) × (some_row (is_same_number a) (drop j keys) ≡ some_row (is_same_number a) (drop (i + 1) keys))
+abbrev invariant-loop-j : tie.invariant-loop-j
+invariant-loop-j keys i a j₀ j = (i < length keys) × (j ≤ length keys) × (some_row (is_same_number a) (drop j keys) ≡ some_row (is_same_number a) (drop (i + 1) keys))
 
-abbrev decreases-loop2 : tie.decreases-loop2
-decreases-loop2 keys i a j₀ j = length keys - j
+abbrev decreases-loop-j : tie.decreases-loop-j
+decreases-loop-j keys i a j₀ j = length keys - j
 
-abbrev invariant-loop : tie.invariant-loop
-invariant-loop keys i₀ i = (i ≤ length keys) × (distinct_rows is_same_number (drop i keys) ≡ distinct_rows is_same_number keys)
+abbrev invariant-loop-i : tie.invariant-loop-i
+invariant-loop-i keys i₀ i = (i ≤ length keys) × (distinct_rows is_same_number (drop i keys) ≡ distinct_rows is_same_number keys)
 
-abbrev decreases-loop : tie.decreases-loop
-decreases-loop keys i₀ i = length keys - i
+abbrev decreases-loop-i : tie.decreases-loop-i
+decreases-loop-i keys i₀ i = length keys - i
 
 pub are_keys_distinct_spec : {M : Type 1} → statement M
 are_keys_distinct_spec =
     tie.close
     (tie.spec
-    invariant-loop2
-    decreases-loop2
-    invariant-loop
-    decreases-loop
+    invariant-loop-j
+    decreases-loop-j
+    invariant-loop-i
+    decreases-loop-i
     (λ c. (search rules, refl))
     (λ c. search rules)
     (λ c. search rules)

@@ -16,33 +16,33 @@ use borrow.Author.Rules.{rules}
 use Rattle.register_keys.proofs.judge_registers.Statement.{statement}
 use Rattle.register_keys.proofs.judge_registers.Tie as tie
 
-abbrev invariant-loop : tie.invariant-loop
-invariant-loop cards names keys₀ owners₀ i₀ keys owners i = (length cards ≤ 32) × (length keys ≡ 32) × (length owners ≡ 32) × (i ≤ length cards) × (every_row (λ (x : List ℕ). is_sound_under names (row_with x)) (drop i cards) ≡ every_row (is_sound_under names) (map row_with cards)) × (take i keys ≡ map (λ (x : List ℕ). key_number (row_with x)) (take i cards)) × (take i owners ≡ map (λ (x : List ℕ). owner_number names (row_with x)) (take i cards))
+abbrev invariant-loop-i : tie.invariant-loop-i
+invariant-loop-i cards names keys₀ owners₀ i₀ keys owners i = (length cards ≤ 32) × (length keys ≡ 32) × (length owners ≡ 32) × (i ≤ length cards) × (every_row (λ (x : List ℕ). is_sound_under names (row_with x)) (drop i cards) ≡ every_row (is_sound_under names) (map row_with cards)) × (take i keys ≡ map (λ (x : List ℕ). key_number (row_with x)) (take i cards)) × (take i owners ≡ map (λ (x : List ℕ). owner_number names (row_with x)) (take i cards))
 
-abbrev decreases-loop : tie.decreases-loop
-decreases-loop cards names keys₀ owners₀ i₀ keys owners i = length cards - i
+abbrev decreases-loop-i : tie.decreases-loop-i
+decreases-loop-i cards names keys₀ owners₀ i₀ keys owners i = length cards - i
 
-loop_again : tie.Need-loop-preserved invariant-loop decreases-loop
+loop_again : tie.Need-loop-i-preserved invariant-loop-i decreases-loop-i
 loop_again c =
-    let j = c.before.before in
-    let l = j.before.before.before.loop.invariant in
-    let h = j.before.before.loop-test.true in
-    let k = turn_written key_number row_with _ _ _ _ l.5 h (omega (arith, l.0, l.1, h)) _ (judged_number _ _ _ j.judge_register.ensures.1.0 c.if1.false) in
-    let o = turn_written (owner_number _) row_with _ _ _ _ l.6 h (omega (arith, l.0, l.2, h)) _ (judged_number _ _ _ j.judge_register.ensures.1.1 c.if1.false) in
+    let j = c.before in
+    let l = j.loop-i.invariant in
+    let h = j.loop-i-test.true in
+    let k = turn_written key_number row_with _ _ _ _ l.5 h (omega (arith, l.0, l.1, h)) _ (judged_number _ _ _ j.judge_register-j.ensures.1.0 c.if-not-j.false) in
+    let o = turn_written (owner_number _) row_with _ _ _ _ l.6 h (omega (arith, l.0, l.2, h)) _ (judged_number _ _ _ j.judge_register-j.ensures.1.1 c.if-not-j.false) in
     (search rules, search rules, search rules, search rules, search lent_turn, k, o)
 
-returns_2 : tie.Need-returns-2 invariant-loop decreases-loop
+returns_2 : tie.Need-returns invariant-loop-i decreases-loop-i
 returns_2 c =
-    let l = c.before.loop.invariant in
-    let h = c.loop-test.false in
+    let l = c.loop-i.invariant in
+    let h = c.loop-i-test.false in
     (search lent_ended, (search rules, ((λ z. turns_ended key_number row_with [] _ _ _ l.5 h l.3), (λ z. turns_ended (owner_number _) row_with [] _ _ _ l.6 h l.3))))
 
 pub judge_registers_spec : {M : Type 1} → statement M
 judge_registers_spec =
     tie.close
     (tie.spec
-    invariant-loop
-    decreases-loop
+    invariant-loop-i
+    decreases-loop-i
     (λ c. (search rules, search rules, search rules, search rules, search every_row_lem, refl, refl))
     (λ c. search rules)
     (λ c. search rules)

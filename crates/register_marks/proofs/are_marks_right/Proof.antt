@@ -8,23 +8,23 @@ use borrow.Author.Rules.{rules}
 use Rattle.register_marks.proofs.are_marks_right.Statement.{statement}
 use Rattle.register_marks.proofs.are_marks_right.Tie as tie
 
-abbrev invariant-loop : tie.invariant-loop
-invariant-loop states m owners marks i₀ i =
+abbrev invariant-loop-i : tie.invariant-loop-i
+invariant-loop-i states m owners marks i₀ i =
     (length owners ≡ 32) × (length marks ≡ 32) × (m ≤ 32) × (i ≤ m) × AreUpTo 8 (take m owners)
     × (are_marks_right states (drop i (take m owners)) (drop i marks) ≡ are_marks_right states (take m owners) marks)
 
-abbrev decreases-loop : tie.decreases-loop
-decreases-loop states m owners marks i₀ i = m - i
+abbrev decreases-loop-i : tie.decreases-loop-i
+decreases-loop-i states m owners marks i₀ i = m - i
 
-returns : tie.Need-returns invariant-loop decreases-loop
+returns : tie.Need-returns invariant-loop-i decreases-loop-i
 returns c = search marks_not
 
 pub are_marks_right_spec : {M : Type 1} → statement M
 are_marks_right_spec =
     tie.close
     (tie.spec
-    invariant-loop
-    decreases-loop
+    invariant-loop-i
+    decreases-loop-i
     (λ c. (search rules, search rules, search rules, search rules, search rules, refl))
     (λ c. search rules)
     (λ c. search rules)

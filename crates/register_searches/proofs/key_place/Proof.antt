@@ -9,18 +9,18 @@ use borrow.Author.Rules.{rules}
 use Rattle.register_searches.proofs.key_place.Statement.{statement}
 use Rattle.register_searches.proofs.key_place.Tie as tie
 
-abbrev invariant-loop : tie.invariant-loop
-invariant-loop m key keys i₀ i = (length keys ≡ 32) × (m ≤ 32) × (i ≤ m) × (first_from (is_the key) i (drop i (take m keys)) ≡ first_from (is_the key) 0 (take m keys))
+abbrev invariant-loop-i : tie.invariant-loop-i
+invariant-loop-i m key keys i₀ i = (length keys ≡ 32) × (m ≤ 32) × (i ≤ m) × (first_from (is_the key) i (drop i (take m keys)) ≡ first_from (is_the key) 0 (take m keys))
 
-abbrev decreases-loop : tie.decreases-loop
-decreases-loop m key keys i₀ i = m - i
+abbrev decreases-loop-i : tie.decreases-loop-i
+decreases-loop-i m key keys i₀ i = m - i
 
 pub key_place_spec : {M : Type 1} → statement M
 key_place_spec =
     tie.close
     (tie.spec
-    invariant-loop
-    decreases-loop
+    invariant-loop-i
+    decreases-loop-i
     (λ c. (search rules, search rules, search rules, refl))
     (λ c. search rules)
     (λ c. search rules)

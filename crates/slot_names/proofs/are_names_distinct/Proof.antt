@@ -10,26 +10,26 @@ use borrow.Author.Rules.{rules}
 use Rattle.slot_names.proofs.are_names_distinct.Statement.{statement}
 use Rattle.slot_names.proofs.are_names_distinct.Tie as tie
 
-abbrev invariant-loop2 : tie.invariant-loop2
-invariant-loop2 names i a j₀ j = (i < length names) × (j ≤ length names) × (some_row (is_called a) (drop j names) ≡ some_row (is_called a) (drop (i + 1) names))
+abbrev invariant-loop-j : tie.invariant-loop-j
+invariant-loop-j names i a j₀ j = (i < length names) × (j ≤ length names) × (some_row (is_called a) (drop j names) ≡ some_row (is_called a) (drop (i + 1) names))
 
-abbrev decreases-loop2 : tie.decreases-loop2
-decreases-loop2 names i a j₀ j = length names - j
+abbrev decreases-loop-j : tie.decreases-loop-j
+decreases-loop-j names i a j₀ j = length names - j
 
-abbrev invariant-loop : tie.invariant-loop
-invariant-loop names i₀ i = (i ≤ length names) × (distinct_rows is_same_name (drop i names) ≡ distinct_rows is_same_name names)
+abbrev invariant-loop-i : tie.invariant-loop-i
+invariant-loop-i names i₀ i = (i ≤ length names) × (distinct_rows is_same_name (drop i names) ≡ distinct_rows is_same_name names)
 
-abbrev decreases-loop : tie.decreases-loop
-decreases-loop names i₀ i = length names - i
+abbrev decreases-loop-i : tie.decreases-loop-i
+decreases-loop-i names i₀ i = length names - i
 
 pub are_names_distinct_spec : {M : Type 1} → statement M
 are_names_distinct_spec =
     tie.close
     (tie.spec
-    invariant-loop2
-    decreases-loop2
-    invariant-loop
-    decreases-loop
+    invariant-loop-j
+    decreases-loop-j
+    invariant-loop-i
+    decreases-loop-i
     (λ c. (search rules, refl))
     (λ c. search rules)
     (λ c. search rules)

@@ -11,18 +11,18 @@ use Rattle.slot_order.proofs.InsertLaws.{all_left, next_below, rest_below, last_
 use Rattle.slot_order.proofs.insert.Statement.{statement}
 use Rattle.slot_order.proofs.insert.Tie as tie
 
-abbrev invariant-loop : tie.invariant-loop
-invariant-loop names first place after₀ name i₀ after i = (i ≤ 7) × (length after ≡ 8) × (are_below (length names) (drop (i + 1) after) ≡ true) × (drop first (sets after i (inserted_by (is_before_at names) place (drop (i + 1) after))) ≡ inserted_by (is_before_at names) place (drop (first + 1) after₀))
+abbrev invariant-loop-i : tie.invariant-loop-i
+invariant-loop-i names first place after₀ name i₀ after i = (i ≤ 7) × (length after ≡ 8) × (are_below (length names) (drop (i + 1) after) ≡ true) × (drop first (sets after i (inserted_by (is_before_at names) place (drop (i + 1) after))) ≡ inserted_by (is_before_at names) place (drop (first + 1) after₀))
 
-abbrev decreases-loop : tie.decreases-loop
-decreases-loop names first place after₀ name i₀ after i = 7 - i
+abbrev decreases-loop-i : tie.decreases-loop-i
+decreases-loop-i names first place after₀ name i₀ after i = 7 - i
 
 pub insert_spec : {M : Type 1} → statement M
 insert_spec =
     tie.close
     (tie.spec
-    invariant-loop
-    decreases-loop
+    invariant-loop-i
+    decreases-loop-i
     (λ c. search rules)
     (λ c. search rules)
     (λ c κs. search rules)

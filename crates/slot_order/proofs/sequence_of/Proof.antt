@@ -9,33 +9,33 @@ use Rattle.slot_order.proofs.SequenceLaws.{none_placed, placed_below, free_passe
 use Rattle.slot_order.proofs.sequence_of.Statement.{statement}
 use Rattle.slot_order.proofs.sequence_of.Tie as tie
 
-abbrev invariant-loop : tie.invariant-loop
-invariant-loop n slots names places₀ first₀ i₀ places first i = (length slots ≡ 8) × (length names ≡ 8) × (length places ≡ 8) × (n ≤ 8) × (i ≤ n) × (i ≤ first) × (first ≤ 8) × (drop first places ≡ sorted_by (is_before_at names) (filled_from i (drop i (take n slots))))
+abbrev invariant-loop-i : tie.invariant-loop-i
+invariant-loop-i n slots names places₀ first₀ i₀ places first i = (length slots ≡ 8) × (length names ≡ 8) × (length places ≡ 8) × (n ≤ 8) × (i ≤ n) × (i ≤ first) × (first ≤ 8) × (drop first places ≡ sorted_by (is_before_at names) (filled_from i (drop i (take n slots))))
 
-abbrev decreases-loop : tie.decreases-loop
-decreases-loop n slots names places₀ first₀ i₀ places first i = i
+abbrev decreases-loop-i : tie.decreases-loop-i
+decreases-loop-i n slots names places₀ first₀ i₀ places first i = i
 
 -- a free row
-loop_again : tie.Need-loop-preserved invariant-loop decreases-loop
+loop_again : tie.Need-loop-i-preserved-then-has_state invariant-loop-i decreases-loop-i
 loop_again c = (search rules, search rules, search rules, search rules, search rules, search rules, search rules, search free_passed)
 
 -- a row that is not free
-loop_again_2 : tie.Need-loop-preserved-2 invariant-loop decreases-loop
+loop_again_2 : tie.Need-loop-i-preserved invariant-loop-i decreases-loop-i
 loop_again_2 c = (search rules, search rules, search rules, search rules, search rules, search rules, search rules, search row_placed)
 
 -- the rows whose places they are show only in the invariant, so it is given
-insert_requires : tie.Need-insert-requires invariant-loop decreases-loop
+insert_requires : tie.Need-insert-after-requires invariant-loop-i decreases-loop-i
 insert_requires c κs =
     let l = c.before.before.before.before in
-    let inv = l.before.loop.invariant in
-    (search rules, search rules, placed_below _ _ _ _ _ _ inv.7 inv.0 inv.3 inv.4 l.loop-test.true inv.5 inv.1)
+    let inv = l.before.loop-i.invariant in
+    (search rules, search rules, placed_below _ _ _ _ _ _ inv.7 inv.0 inv.3 inv.4 l.loop-i-test.true inv.5 inv.1)
 
 pub sequence_of_spec : {M : Type 1} → statement M
 sequence_of_spec =
     tie.close
     (tie.spec
-    invariant-loop
-    decreases-loop
+    invariant-loop-i
+    decreases-loop-i
     (λ c κs. search rules)
     (λ c. (search rules, search rules, search rules, search rules, search rules, search rules, search rules, search (none_placed, rules)))
     (λ c. search rules)

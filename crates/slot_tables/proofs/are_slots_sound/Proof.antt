@@ -9,18 +9,18 @@ use Rattle.row_types.proofs.LoopLaws.{every_ended, every_not, every_turn}
 use Rattle.slot_tables.proofs.are_slots_sound.Statement.{statement}
 use Rattle.slot_tables.proofs.are_slots_sound.Tie as tie
 
-abbrev invariant-loop : tie.invariant-loop
-invariant-loop n slots i₀ i = (length slots ≡ 8) × (n ≤ 8) × (i ≤ n) × (every_row is_slot_sound (drop i (take n slots)) ≡ every_row is_slot_sound (take n slots))
+abbrev invariant-loop-i : tie.invariant-loop-i
+invariant-loop-i n slots i₀ i = (length slots ≡ 8) × (n ≤ 8) × (i ≤ n) × (every_row is_slot_sound (drop i (take n slots)) ≡ every_row is_slot_sound (take n slots))
 
-abbrev decreases-loop : tie.decreases-loop
-decreases-loop n slots i₀ i = n - i
+abbrev decreases-loop-i : tie.decreases-loop-i
+decreases-loop-i n slots i₀ i = n - i
 
 pub are_slots_sound_spec : {M : Type 1} → statement M
 are_slots_sound_spec =
     tie.close
     (tie.spec
-    invariant-loop
-    decreases-loop
+    invariant-loop-i
+    decreases-loop-i
     (λ c. (search rules, search rules, search rules, refl))
     (λ c. search rules)
     (λ c. search rules)

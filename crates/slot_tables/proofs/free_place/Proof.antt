@@ -10,18 +10,18 @@ use Rattle.row_types.proofs.LoopLaws.{first_ended, first_here, first_turn}
 use Rattle.slot_tables.proofs.free_place.Statement.{statement}
 use Rattle.slot_tables.proofs.free_place.Tie as tie
 
-abbrev invariant-loop : tie.invariant-loop
-invariant-loop n slots k₀ k = (length slots ≡ 8) × (n ≤ 8) × (k ≤ n) × (first_from (has_state Free) k (drop k (take n slots)) ≡ first_from (has_state Free) 0 (take n slots))
+abbrev invariant-loop-k : tie.invariant-loop-k
+invariant-loop-k n slots k₀ k = (length slots ≡ 8) × (n ≤ 8) × (k ≤ n) × (first_from (has_state Free) k (drop k (take n slots)) ≡ first_from (has_state Free) 0 (take n slots))
 
-abbrev decreases-loop : tie.decreases-loop
-decreases-loop n slots k₀ k = n - k
+abbrev decreases-loop-k : tie.decreases-loop-k
+decreases-loop-k n slots k₀ k = n - k
 
 pub free_place_spec : {M : Type 1} → statement M
 free_place_spec =
     tie.close
     (tie.spec
-    invariant-loop
-    decreases-loop
+    invariant-loop-k
+    decreases-loop-k
     (λ c. (search rules, search rules, search rules, refl))
     (λ c. search rules)
     (λ c. search rules)

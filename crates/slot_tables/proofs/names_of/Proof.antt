@@ -10,18 +10,18 @@ use Rattle.row_types.proofs.LoopLaws.{fill_start, field_turn, fill_ended}
 use Rattle.slot_tables.proofs.names_of.Statement.{statement}
 use Rattle.slot_tables.proofs.names_of.Tie as tie
 
-abbrev invariant-loop : tie.invariant-loop
-invariant-loop slots names₀ i₀ names i = (length slots ≡ 8) × (i ≤ 8) × (sets names i (map kept_name (drop i slots)) ≡ map kept_name slots)
+abbrev invariant-loop-i : tie.invariant-loop-i
+invariant-loop-i slots names₀ i₀ names i = (length slots ≡ 8) × (i ≤ 8) × (sets names i (map kept_name (drop i slots)) ≡ map kept_name slots)
 
-abbrev decreases-loop : tie.decreases-loop
-decreases-loop slots names₀ i₀ names i = 8 - i
+abbrev decreases-loop-i : tie.decreases-loop-i
+decreases-loop-i slots names₀ i₀ names i = 8 - i
 
 pub names_of_spec : {M : Type 1} → statement M
 names_of_spec =
     tie.close
     (tie.spec
-    invariant-loop
-    decreases-loop
+    invariant-loop-i
+    decreases-loop-i
     (λ c. (search rules, search rules, search (fill_start, rules)))
     (λ c. search rules)
     (λ c. search rules)

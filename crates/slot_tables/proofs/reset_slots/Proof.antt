@@ -6,18 +6,18 @@ use Rattle.row_types.proofs.LoopLaws.{Sweeping, sweep_starts, sweep_turn, sweep_
 use Rattle.slot_tables.proofs.reset_slots.Statement.{statement}
 use Rattle.slot_tables.proofs.reset_slots.Tie as tie
 
-abbrev invariant-loop : tie.invariant-loop
-invariant-loop n after₀ i₀ after i = (n ≤ 8) × (i ≤ n) × Sweeping reset_slot n 8 after₀ after i
+abbrev invariant-loop-i : tie.invariant-loop-i
+invariant-loop-i n after₀ i₀ after i = (n ≤ 8) × (i ≤ n) × Sweeping reset_slot n 8 after₀ after i
 
-abbrev decreases-loop : tie.decreases-loop
-decreases-loop n after₀ i₀ after i = n - i
+abbrev decreases-loop-i : tie.decreases-loop-i
+decreases-loop-i n after₀ i₀ after i = n - i
 
 pub reset_slots_spec : {M : Type 1} → statement M
 reset_slots_spec =
     tie.close
     (tie.spec
-    invariant-loop
-    decreases-loop
+    invariant-loop-i
+    decreases-loop-i
     (λ c. (search rules, search rules, search (sweep_starts, rules)))
     (λ c. search rules)
     (λ c. search rules)

@@ -10,18 +10,18 @@ use Rattle.row_types.proofs.LoopLaws.{fill_start, field_turn, fill_ended}
 use Rattle.slot_tables.proofs.states_of.Statement.{statement}
 use Rattle.slot_tables.proofs.states_of.Tie as tie
 
-abbrev invariant-loop : tie.invariant-loop
-invariant-loop slots states₀ i₀ states i = (length slots ≡ 8) × (i ≤ 8) × (sets states i (map state_in (drop i slots)) ≡ map state_in slots)
+abbrev invariant-loop-i : tie.invariant-loop-i
+invariant-loop-i slots states₀ i₀ states i = (length slots ≡ 8) × (i ≤ 8) × (sets states i (map state_in (drop i slots)) ≡ map state_in slots)
 
-abbrev decreases-loop : tie.decreases-loop
-decreases-loop slots states₀ i₀ states i = 8 - i
+abbrev decreases-loop-i : tie.decreases-loop-i
+decreases-loop-i slots states₀ i₀ states i = 8 - i
 
 pub states_of_spec : {M : Type 1} → statement M
 states_of_spec =
     tie.close
     (tie.spec
-    invariant-loop
-    decreases-loop
+    invariant-loop-i
+    decreases-loop-i
     (λ c. (search rules, search rules, search (fill_start, rules)))
     (λ c. search rules)
     (λ c. search rules)
