@@ -4,10 +4,10 @@ use borrow.Author.Rules.{rules}
 use Rattle.decide_records.proofs.session_place.Statement.{statement}
 use Rattle.decide_records.proofs.session_place.Tie as tie
 
-returns : tie.Need-returns
+returns : tie.Need-returns-in-At
 returns c = search session_known
 
-returns_2 : tie.Need-returns-2
+returns_2 : tie.Need-returns
 returns_2 c = search session_free
 
 pub session_place_spec : {M : Type 1} → statement M
