@@ -13,10 +13,6 @@ sub_in_form c =
 part_in_form_start : tie.Need-slice_bounds-in_form-start
 part_in_form_start c = sub_in_form c
 
-returns_4 : tie.Need-returns-then-not-in_form
-returns_4 c =
-    (any_out _ _ _ _ c.if-s-at.false _ c.piece_end-end.ensures.0 c.if-s-end.false _ c.name_of.ensures c.if-name_of-name.false _ c.in_form.ensures c.if-not-in_form.true-raw, search rules)
-
 returns_5 : tie.Need-returns
 returns_5 c =
     (any_in _ _ _ _ c.if-s-at.false _ c.piece_end-end.ensures.0 c.if-s-end.false _ c.name_of.ensures c.if-name_of-name.false _ c.in_form.ensures c.if-not-in_form.false-raw, search rules)
@@ -42,6 +38,7 @@ after_any_spec =
     (λ c. search rules)
     (λ c κs. search rules)
     (λ c. search rules)
-    returns_4
+    (λ c.
+    (any_out _ _ _ _ c.if-s-at.false _ c.piece_end-end.ensures.0 c.if-s-end.false _ c.name_of.ensures c.if-name_of-name.false _ c.in_form.ensures c.if-not-in_form.true-raw, search rules))
     (λ c. search rules)
     returns_5)

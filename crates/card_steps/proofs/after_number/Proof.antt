@@ -4,28 +4,6 @@ use borrow.Author.Rules.{rules}
 use Rattle.card_steps.proofs.after_number.Statement.{statement}
 use Rattle.card_steps.proofs.after_number.Tie as tie
 
--- from here on a search of all fields breaks off, so the facts are given
-returns_3 : tie.Need-returns-then-s-end
-returns_3 c =
-    let d = c.before in
-    let l = d.before.before in
-    let e = l.before.before.before.before.before.before in
-    (number_open _ e.requires.1 _ _ _ _ _ l.lesser-limit.ensures.1 _ d.digit_count.ensures.0 c.if-s-end.true, search rules)
-
-returns_4 : tie.Need-returns-then-s-end-ne59
-returns_4 c =
-    let d = c.before.before.before in
-    let l = d.before.before in
-    let e = l.before.before.before.before.before.before in
-    (number_unended _ e.requires.1 _ _ _ _ _ l.lesser-limit.ensures.1 _ d.digit_count.ensures.0 c.if-s-end-ne59.true, search rules)
-
-returns_5 : tie.Need-returns-then-not-is_number
-returns_5 c =
-    let d = c.before.before.before.before.before.before in
-    let l = d.before.before in
-    let e = l.before.before.before.before.before.before in
-    (number_out _ e.requires.1 _ _ _ _ _ l.lesser-limit.ensures.1 _ d.digit_count.ensures.0 _ c.before.is_number.ensures c.if-not-is_number.true-raw, search rules)
-
 returns_6 : tie.Need-returns
 returns_6 c =
     let i = c.before.before.before in
@@ -36,6 +14,7 @@ returns_6 c =
       search rules,
     )
 
+-- from here on a search of all fields breaks off, so the facts are given
 pub after_number_spec : {M : Type 1} → statement M
 after_number_spec =
     tie.close
@@ -60,15 +39,27 @@ after_number_spec =
     (λ c κs. search rules)
     (λ c. search rules)
     (λ c. search rules)
-    returns_3
+    (λ c.
+    let d = c.before in
+    let l = d.before.before in
+    let e = l.before.before.before.before.before.before in
+    (number_open _ e.requires.1 _ _ _ _ _ l.lesser-limit.ensures.1 _ d.digit_count.ensures.0 c.if-s-end.true, search rules))
     (λ c. search rules)
     (λ c. search rules)
-    returns_4
+    (λ c.
+    let d = c.before.before.before in
+    let l = d.before.before in
+    let e = l.before.before.before.before.before.before in
+    (number_unended _ e.requires.1 _ _ _ _ _ l.lesser-limit.ensures.1 _ d.digit_count.ensures.0 c.if-s-end-ne59.true, search rules))
     (λ c. search rules)
     (λ c. search rules)
     (λ c. search rules)
     (λ c κs. (search rules, number_all _ _ _ _ c.before.before.before.before.digit_count.ensures.0))
     (λ c. search rules)
-    returns_5
+    (λ c.
+    let d = c.before.before.before.before.before.before in
+    let l = d.before.before in
+    let e = l.before.before.before.before.before.before in
+    (number_out _ e.requires.1 _ _ _ _ _ l.lesser-limit.ensures.1 _ d.digit_count.ensures.0 _ c.before.is_number.ensures c.if-not-is_number.true-raw, search rules))
     (λ c. search rules)
     returns_6)

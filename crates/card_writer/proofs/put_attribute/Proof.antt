@@ -5,15 +5,12 @@ use Rattle.card_writer.proofs.put_attribute.Statement.{statement}
 use Rattle.card_writer.proofs.put_attribute.Tie as tie
 
 -- this one has a name, so that it is judged by itself, and not only where what is called is proved
-returns : tie.Need-returns-then-not-has_entry
-returns c = search left_out
-
 pub put_attribute_spec : {M : Type 1} → statement M
 put_attribute_spec =
     tie.close
     (tie.spec
     (λ c κs. search rules)
-    returns
+    (λ c. search left_out)
     (λ c κs. search rules)
     (λ c κs. (search rules, search entry_fits))
     (λ c. search rules)

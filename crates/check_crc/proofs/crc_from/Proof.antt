@@ -16,12 +16,6 @@ invariant-loop-i start s v₀ lacks₀ i₀ v lacks i = (i ≤ length s) × Read
 abbrev decreases-loop-i : tie.decreases-loop-i
 decreases-loop-i start s v₀ lacks₀ i₀ v lacks i = length s - i
 
-loop_again : tie.Need-loop-i-preserved-then-s-i-ge15 invariant-loop-i decreases-loop-i
-loop_again c =
-    let start = c.before.before.before.before in
-    let bytes : Bytes start.before.args.s.now = λ k. (start.shared_slice_known-1.given k).fits in
-    (search rules, inl (search rules), search (from_turn, bytes))
-
 loop_again_2 : tie.Need-loop-i-preserved invariant-loop-i decreases-loop-i
 loop_again_2 c =
     let start = c.before.before.before.before.before in
@@ -46,7 +40,10 @@ crc_from_spec =
     (λ c. search rules)
     (λ c. search rules)
     (λ c. search rules)
-    loop_again
+    (λ c.
+    let start = c.before.before.before.before in
+    let bytes : Bytes start.before.args.s.now = λ k. (start.shared_slice_known-1.given k).fits in
+    (search rules, inl (search rules), search (from_turn, bytes)))
     (λ c κs. search rules)
     (λ c κs. search rules)
     (λ c. search rules)

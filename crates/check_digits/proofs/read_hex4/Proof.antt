@@ -4,9 +4,6 @@ use borrow.Author.Rules.{rules}
 use Rattle.check_digits.proofs.read_hex4.Statement.{statement}
 use Rattle.check_digits.proofs.read_hex4.Tie as tie
 
-returns_2 : tie.Need-returns-then-bytes-at
-returns_2 c = search past_end
-
 returns_3 : tie.Need-returns
 returns_3 c = search four_read
 
@@ -16,7 +13,7 @@ read_hex4_spec =
     (tie.spec
     (λ c. search too_short)
     (λ c. search rules)
-    returns_2
+    (λ c. search past_end)
     (λ c. search rules)
     (λ c κs. search rules)
     (λ c. search rules)

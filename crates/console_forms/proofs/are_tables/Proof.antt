@@ -6,11 +6,11 @@ use borrow.Author.Rules.{rules}
 use Rattle.console_forms.proofs.are_tables.Statement.{statement}
 use Rattle.console_forms.proofs.are_tables.Tie as tie
 
-returns : tie.Need-returns
+returns : tie.Need-returns-then-not-is_number
 unfolding are_tables
 returns c = search (chain, cuts)
 
-returns_2 : tie.Need-returns-2
+returns_2 : tie.Need-returns
 unfolding are_tables
 returns_2 c = search (chain, cuts)
 

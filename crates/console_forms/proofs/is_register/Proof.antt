@@ -6,15 +6,15 @@ use borrow.Author.Rules.{rules}
 use Rattle.console_forms.proofs.is_register.Statement.{statement}
 use Rattle.console_forms.proofs.is_register.Tie as tie
 
-returns : tie.Need-returns
+returns : tie.Need-returns-then-not-is_number
 unfolding is_register
 returns c = search (chain, cuts)
 
-returns_2 : tie.Need-returns-2
+returns_2 : tie.Need-returns-then-not-has_byte
 unfolding is_register
 returns_2 c = search (chain, cuts)
 
-returns_3 : tie.Need-returns-3
+returns_3 : tie.Need-returns
 unfolding is_register
 returns_3 c = search (chain, cuts)
 

@@ -6,15 +6,15 @@ use borrow.Author.Rules.{rules}
 use Rattle.console_forms.proofs.is_slot_row.Statement.{statement}
 use Rattle.console_forms.proofs.is_slot_row.Tie as tie
 
-returns : tie.Need-returns
+returns : tie.Need-returns-then-not-in_form
 unfolding is_slot_row
 returns c = search (chain, cuts)
 
-returns_2 : tie.Need-returns-2
+returns_2 : tie.Need-returns-then-not-in_form-2
 unfolding is_slot_row
 returns_2 c = search (chain, cuts)
 
-returns_3 : tie.Need-returns-3
+returns_3 : tie.Need-returns
 unfolding is_slot_row
 returns_3 c = search (chain, cuts)
 

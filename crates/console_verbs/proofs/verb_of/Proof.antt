@@ -8,17 +8,17 @@ use borrow.Author.Rules.{rules}
 use Rattle.console_verbs.proofs.verb_of.Statement.{statement}
 use Rattle.console_verbs.proofs.verb_of.Tie as tie
 
-abbrev invariant-loop : tie.invariant-loop
-invariant-loop w k₀ k = (k ≤ 15) × (named (drop k verbs) w ≡ named verbs w)
+abbrev invariant-loop-k : tie.invariant-loop-k
+invariant-loop-k w k₀ k = (k ≤ 15) × (named (drop k verbs) w ≡ named verbs w)
 
-abbrev decreases-loop : tie.decreases-loop
-decreases-loop w k₀ k = 15 - k
+abbrev decreases-loop-k : tie.decreases-loop-k
+decreases-loop-k w k₀ k = 15 - k
 
-returns : tie.Need-returns invariant-loop decreases-loop
+returns : tie.Need-returns-then-same_bytes invariant-loop-k decreases-loop-k
 unfolding verb_of
 returns c = search named_here
 
-returns_2 : tie.Need-returns-2 invariant-loop decreases-loop
+returns_2 : tie.Need-returns invariant-loop-k decreases-loop-k
 unfolding verb_of
 returns_2 c = search none_named
 
@@ -26,8 +26,8 @@ pub verb_of_spec : {M : Type 1} → statement M
 verb_of_spec =
     tie.close
     (tie.spec
-    invariant-loop
-    decreases-loop
+    invariant-loop-k
+    decreases-loop-k
     (λ c. (search rules, refl))
     (λ c κs. search rules)
     (λ c. search rules)

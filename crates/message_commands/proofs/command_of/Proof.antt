@@ -14,15 +14,12 @@ invariant-loop-k h k₀ k = (k ≤ 10) × (named (drop k headers) h ≡ named he
 abbrev decreases-loop-k : tie.decreases-loop-k
 decreases-loop-k h k₀ k = 10 - k
 
-returns : tie.Need-returns-then-same_bytes invariant-loop-k decreases-loop-k
-unfolding command_of
-returns c = search named_here
-
 returns_2 : tie.Need-returns invariant-loop-k decreases-loop-k
 unfolding command_of
 returns_2 c = search none_named
 
 pub command_of_spec : {M : Type 1} → statement M
+unfolding command_of
 command_of_spec =
     tie.close
     (tie.spec
@@ -32,7 +29,7 @@ command_of_spec =
     (λ c κs. search rules)
     (λ c. search rules)
     (λ c κs. search rules)
-    returns
+    (λ c. search named_here)
     (λ c. search rules)
     (λ c. search rules)
     (λ c. (search rules, search named_later))

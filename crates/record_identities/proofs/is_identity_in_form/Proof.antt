@@ -6,10 +6,6 @@ use borrow.Author.Rules.{rules}
 use Rattle.record_identities.proofs.is_identity_in_form.Statement.{statement}
 use Rattle.record_identities.proofs.is_identity_in_form.Tie as tie
 
-returns_2 : tie.Need-returns-then-not-is_part_in_form-2
-unfolding identity_in_form
-returns_2 c = search (field_chain, rules)
-
 returns_4 : tie.Need-returns
 unfolding identity_in_form
 returns_4 c = search (field_chain, rules)
@@ -24,7 +20,7 @@ is_identity_in_form_spec =
     (λ c. search (field_chain, rules))
     (λ c. search rules)
     (λ c κs. search (field_fits, rules))
-    returns_2
+    (λ c. search (field_chain, rules))
     (λ c. search rules)
     (λ c κs. search (field_fits, rules))
     (λ c. search (field_chain, rules))

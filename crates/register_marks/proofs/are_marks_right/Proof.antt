@@ -16,7 +16,7 @@ invariant-loop-i states m owners marks i₀ i =
 abbrev decreases-loop-i : tie.decreases-loop-i
 decreases-loop-i states m owners marks i₀ i = m - i
 
-returns : tie.Need-returns invariant-loop-i decreases-loop-i
+returns : tie.Need-returns-then-not-is_mark_right invariant-loop-i decreases-loop-i
 returns c = search marks_not
 
 pub are_marks_right_spec : {M : Type 1} → statement M

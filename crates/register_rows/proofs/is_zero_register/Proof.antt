@@ -4,9 +4,6 @@ use borrow.Author.Rules.{rules}
 use Rattle.register_rows.proofs.is_zero_register.Statement.{statement}
 use Rattle.register_rows.proofs.is_zero_register.Tie as tie
 
-returns : tie.Need-returns-then-row-ne0
-returns c = search marked
-
 returns_2 : tie.Need-returns
 returns_2 c = search unmarked
 
@@ -14,6 +11,6 @@ pub is_zero_register_spec : {M : Type 1} → statement M
 is_zero_register_spec =
     tie.close
     (tie.spec
-    returns
+    (λ c. search marked)
     (λ c κs. search rules)
     returns_2)

@@ -9,18 +9,18 @@ use borrow.Author.Rules.{rules}
 use Rattle.register_tables.proofs.close_all.Statement.{statement}
 use Rattle.register_tables.proofs.close_all.Tie as tie
 
-abbrev invariant-loop : tie.invariant-loop
-invariant-loop m after₀ at₀ after at = (length after ≡ 32) × (m ≤ 32) × (at ≤ m) × Sweeping closing m 32 after₀ after at
+abbrev invariant-loop-at : tie.invariant-loop-at
+invariant-loop-at m after₀ at₀ after at = (length after ≡ 32) × (m ≤ 32) × (at ≤ m) × Sweeping closing m 32 after₀ after at
 
-abbrev decreases-loop : tie.decreases-loop
-decreases-loop m after₀ at₀ after at = m - at
+abbrev decreases-loop-at : tie.decreases-loop-at
+decreases-loop-at m after₀ at₀ after at = m - at
 
 pub close_all_spec : {M : Type 1} → statement M
 close_all_spec =
     tie.close
     (tie.spec
-    invariant-loop
-    decreases-loop
+    invariant-loop-at
+    decreases-loop-at
     (λ c. (search rules, search rules, search rules, search (sweep_starts, rules)))
     (λ c. search rules)
     (λ c. search rules)

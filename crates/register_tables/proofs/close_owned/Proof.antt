@@ -8,21 +8,21 @@ use borrow.Author.Rules.{rules}
 use Rattle.register_tables.proofs.close_owned.Statement.{statement}
 use Rattle.register_tables.proofs.close_owned.Tie as tie
 
-abbrev invariant-loop : tie.invariant-loop
-invariant-loop m slot owners after₀ at₀ after at = (length after₀ ≡ 32) × (length owners ≡ 32) × (length after ≡ 32) × (m ≤ 32) × (at ≤ m) × Clearing closed_mark slot (take m owners) after₀ after at
+abbrev invariant-loop-at : tie.invariant-loop-at
+invariant-loop-at m slot owners after₀ at₀ after at = (length after₀ ≡ 32) × (length owners ≡ 32) × (length after ≡ 32) × (m ≤ 32) × (at ≤ m) × Clearing closed_mark slot (take m owners) after₀ after at
 
-abbrev decreases-loop : tie.decreases-loop
-decreases-loop m slot owners after₀ at₀ after at = m - at
+abbrev decreases-loop-at : tie.decreases-loop-at
+decreases-loop-at m slot owners after₀ at₀ after at = m - at
 
-loop_again : tie.Need-loop-preserved invariant-loop decreases-loop
+loop_again : tie.Need-loop-at-preserved invariant-loop-at decreases-loop-at
 loop_again c = (search rules, search rules, search rules, search rules, search rules, search mark_turn)
 
 pub close_owned_spec : {M : Type 1} → statement M
 close_owned_spec =
     tie.close
     (tie.spec
-    invariant-loop
-    decreases-loop
+    invariant-loop-at
+    decreases-loop-at
     (λ c. (search rules, search rules, search rules, search rules, search rules, search (clearing_starts closed_mark)))
     (λ c. search rules)
     (λ c. search rules)

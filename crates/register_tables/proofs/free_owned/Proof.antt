@@ -8,18 +8,18 @@ use borrow.Author.Rules.{rules}
 use Rattle.register_tables.proofs.free_owned.Statement.{statement}
 use Rattle.register_tables.proofs.free_owned.Tie as tie
 
-abbrev invariant-loop : tie.invariant-loop
-invariant-loop cards₀ m slot owners at₀ cards at = (length owners ≡ 32) × (m ≤ 32) × (m ≤ length cards₀) × (at ≤ m) × (length cards ≡ length cards₀) × Clearing (replicate 256 0) slot (take m owners) cards₀ cards at
+abbrev invariant-loop-at : tie.invariant-loop-at
+invariant-loop-at cards₀ m slot owners at₀ cards at = (length owners ≡ 32) × (m ≤ 32) × (m ≤ length cards₀) × (at ≤ m) × (length cards ≡ length cards₀) × Clearing (replicate 256 0) slot (take m owners) cards₀ cards at
 
-abbrev decreases-loop : tie.decreases-loop
-decreases-loop cards₀ m slot owners at₀ cards at = m - at
+abbrev decreases-loop-at : tie.decreases-loop-at
+decreases-loop-at cards₀ m slot owners at₀ cards at = m - at
 
 pub free_owned_spec : {M : Type 1} → statement M
 free_owned_spec =
     tie.close
     (tie.spec
-    invariant-loop
-    decreases-loop
+    invariant-loop-at
+    decreases-loop-at
     (λ c. (search rules, search rules, search rules, search rules, refl, search clearing_starts))
     (λ c. search rules)
     (λ c. search rules)

@@ -10,18 +10,18 @@ use borrow.Author.Rules.{rules}
 use Rattle.register_tables.proofs.marks_of.Statement.{statement}
 use Rattle.register_tables.proofs.marks_of.Tie as tie
 
-abbrev invariant-loop : tie.invariant-loop
-invariant-loop registers marks₀ i₀ marks i = (length registers ≡ 32) × (length marks ≡ 32) × (i ≤ 32) × (sets marks i (map mark_in (drop i registers)) ≡ map mark_in registers)
+abbrev invariant-loop-i : tie.invariant-loop-i
+invariant-loop-i registers marks₀ i₀ marks i = (length registers ≡ 32) × (length marks ≡ 32) × (i ≤ 32) × (sets marks i (map mark_in (drop i registers)) ≡ map mark_in registers)
 
-abbrev decreases-loop : tie.decreases-loop
-decreases-loop registers marks₀ i₀ marks i = 32 - i
+abbrev decreases-loop-i : tie.decreases-loop-i
+decreases-loop-i registers marks₀ i₀ marks i = 32 - i
 
 pub marks_of_spec : {M : Type 1} → statement M
 marks_of_spec =
     tie.close
     (tie.spec
-    invariant-loop
-    decreases-loop
+    invariant-loop-i
+    decreases-loop-i
     (λ c. (search rules, search rules, search rules, search (fill_start, rules)))
     (λ c. search rules)
     (λ c. search rules)

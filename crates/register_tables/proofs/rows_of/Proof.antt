@@ -11,20 +11,20 @@ use borrow.Author.Rules.{rules}
 use Rattle.register_tables.proofs.rows_of.Statement.{statement}
 use Rattle.register_tables.proofs.rows_of.Tie as tie
 
-abbrev invariant-loop : tie.invariant-loop
-invariant-loop cards marks registers₀ i₀ registers i =
+abbrev invariant-loop-i : tie.invariant-loop-i
+invariant-loop-i cards marks registers₀ i₀ registers i =
     (length cards ≡ 32) × (length marks ≡ 32) × (length registers ≡ 32) × (i ≤ 32)
     × (sets registers i (map (λ (r : RegisterRow). r) (drop i (marked_rows cards marks))) ≡ map (λ (r : RegisterRow). r) (marked_rows cards marks))
 
-abbrev decreases-loop : tie.decreases-loop
-decreases-loop cards marks registers₀ i₀ registers i = 32 - i
+abbrev decreases-loop-i : tie.decreases-loop-i
+decreases-loop-i cards marks registers₀ i₀ registers i = 32 - i
 
 pub rows_of_spec : {M : Type 1} → statement M
 rows_of_spec =
     tie.close
     (tie.spec
-    invariant-loop
-    decreases-loop
+    invariant-loop-i
+    decreases-loop-i
     (λ c. (search rules, search rules, search rules, search rules, search (rows_start, rules)))
     (λ c. search rules)
     (λ c. search rules)

@@ -4,10 +4,10 @@ use borrow.Author.Rules.{rules}
 use Rattle.row_soundness.proofs.find_keys.Statement.{statement}
 use Rattle.row_soundness.proofs.find_keys.Tie as tie
 
-returns : tie.Need-returns
+returns : tie.Need-returns-then-not-are_slots_sound
 returns c = (search unsound_cases, ((λ z. search rules), (λ z. search rules)))
 
-returns_4 : tie.Need-returns-4
+returns_4 : tie.Need-returns-then-not-are_keys_distinct
 returns_4 c = (search unsound_cases, ((λ z. search rules), (λ z. search rules)))
 
 pub find_keys_spec : {M : Type 1} → statement M

@@ -4,9 +4,6 @@ use borrow.Author.Rules.{rules}
 use Rattle.slot_forms.proofs.is_slot_sound.Statement.{statement}
 use Rattle.slot_forms.proofs.is_slot_sound.Tie as tie
 
-returns_3 : tie.Need-returns-then-row-gt3
-returns_3 c = search no_state
-
 pub is_slot_sound_spec : {M : Type 1} → statement M
 is_slot_sound_spec =
     tie.close
@@ -14,6 +11,6 @@ is_slot_sound_spec =
     (λ c κs. search rules)
     (λ c. search zero_sound)
     (λ c. search free_unsound)
-    returns_3
+    (λ c. search no_state)
     (λ c κs. search rules)
     (λ c. search filled_sound))

@@ -15,10 +15,6 @@ invariant-loop-i n slots names places₀ first₀ i₀ places first i = (length 
 abbrev decreases-loop-i : tie.decreases-loop-i
 decreases-loop-i n slots names places₀ first₀ i₀ places first i = i
 
--- a free row
-loop_again : tie.Need-loop-i-preserved-then-has_state invariant-loop-i decreases-loop-i
-loop_again c = (search rules, search rules, search rules, search rules, search rules, search rules, search rules, search free_passed)
-
 -- a row that is not free
 loop_again_2 : tie.Need-loop-i-preserved invariant-loop-i decreases-loop-i
 loop_again_2 c = (search rules, search rules, search rules, search rules, search rules, search rules, search rules, search row_placed)
@@ -30,6 +26,7 @@ insert_requires c κs =
     let inv = l.before.loop-i.invariant in
     (search rules, search rules, placed_below _ _ _ _ _ _ inv.7 inv.0 inv.3 inv.4 l.loop-i-test.true inv.5 inv.1)
 
+-- a free row
 pub sequence_of_spec : {M : Type 1} → statement M
 sequence_of_spec =
     tie.close
@@ -43,7 +40,7 @@ sequence_of_spec =
     (λ c. search rules)
     (λ c κs. search rules)
     (λ c. search rules)
-    loop_again
+    (λ c. (search rules, search rules, search rules, search rules, search rules, search rules, search rules, search free_passed))
     (λ c. search rules)
     (λ c. search rules)
     insert_requires

@@ -4,20 +4,14 @@ use borrow.Author.Rules.{rules}
 use Rattle.slot_rows.proofs.reset_slot.Statement.{statement}
 use Rattle.slot_rows.proofs.reset_slot.Tie as tie
 
-returns : tie.Need-returns-then-has_state
-returns c = search pending_reset
-
-returns_2 : tie.Need-returns-then-has_state-2
-returns_2 c = search loading_reset
-
 pub reset_slot_spec : {M : Type 1} → statement M
 reset_slot_spec =
     tie.close
     (tie.spec
     (λ c κs. search rules)
     (λ c κs. search rules)
-    returns
+    (λ c. search pending_reset)
     (λ c κs. search rules)
     (λ c κs. search rules)
-    returns_2
+    (λ c. search loading_reset)
     (λ c. search kept))

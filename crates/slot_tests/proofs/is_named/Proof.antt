@@ -4,9 +4,6 @@ use borrow.Author.Rules.{rules}
 use Rattle.slot_tests.proofs.is_named.Statement.{statement}
 use Rattle.slot_tests.proofs.is_named.Tie as tie
 
-returns : tie.Need-returns-then-has_state
-returns c = search free_not_named
-
 returns_2 : tie.Need-returns
 returns_2 c = search named
 
@@ -15,7 +12,7 @@ is_named_spec =
     tie.close
     (tie.spec
     (λ c κs. search rules)
-    returns
+    (λ c. search free_not_named)
     (λ c κs. search rules)
     (λ c κs. search rules)
     returns_2)

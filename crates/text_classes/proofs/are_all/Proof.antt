@@ -15,15 +15,12 @@ invariant-loop-i class s i₀ i = (i ≤ length s) × (all_of (is_of class) (dro
 abbrev decreases-loop-i : tie.decreases-loop-i
 decreases-loop-i class s i₀ i = length s - i
 
-returns : tie.Need-returns-then-not-is_of invariant-loop-i decreases-loop-i
-unfolding are_all
-returns c = search are_stopped
-
 returns_2 : tie.Need-returns invariant-loop-i decreases-loop-i
 unfolding are_all
 returns_2 c = search are_ended
 
 pub are_all_spec : {M : Type 1} → statement M
+unfolding are_all
 are_all_spec =
     tie.close
     (tie.spec
@@ -32,7 +29,7 @@ are_all_spec =
     (λ c. (search rules, refl))
     (λ c. search rules)
     (λ c κs. search rules)
-    returns
+    (λ c. search are_stopped)
     (λ c. search rules)
     (λ c. search rules)
     (λ c. (search rules, search are_turn))

@@ -4,20 +4,14 @@ use borrow.Author.Rules.{rules}
 use Rattle.text_classes.proofs.is_identifier.Statement.{statement}
 use Rattle.text_classes.proofs.is_identifier.Tie as tie
 
-returns_2 : tie.Need-returns-then-name-gt40
-returns_2 c = search long_name_lem
-
-returns_3 : tie.Need-returns-then-not-is_alphanumeric
-returns_3 c = search bad_start
-
 pub is_identifier_spec : {M : Type 1} → statement M
 is_identifier_spec =
     tie.close
     (tie.spec
     (λ c. search no_name)
-    returns_2
+    (λ c. search long_name_lem)
     (λ c. search rules)
     (λ c κs. search rules)
-    returns_3
+    (λ c. search bad_start)
     (λ c κs. search rules)
     (λ c. search a_name))

@@ -4,9 +4,6 @@ use borrow.Author.Rules.{rules}
 use Rattle.text_decimals.proofs.is_number.Statement.{statement}
 use Rattle.text_decimals.proofs.is_number.Tie as tie
 
-returns_6 : tie.Need-returns-then-high-x
-returns_6 c = search above
-
 pub is_number_spec : {M : Type 1} → statement M
 is_number_spec =
     tie.close
@@ -19,5 +16,5 @@ is_number_spec =
     (λ c. search padded)
     (λ c κs. search rules)
     (λ c. search below)
-    returns_6
+    (λ c. search above)
     (λ c. search in_range))
