@@ -28,6 +28,9 @@ module _ (r : Refusal) (qs : List Question) (d : Decision) where
     pub ask_yes : not t ≡ false → (a : Decision) → a ≡ decided (first_no qs) d → a ≡ decided (first_no ((b otherwise r) ∷ qs)) d
     ask_yes o a p = p ∙ sym (rw (← e, not-false t o))
 
+    pub ask_held : t ≡ true → (a : Decision) → a ≡ decided (first_no qs) d → a ≡ decided (first_no ((b otherwise r) ∷ qs)) d
+    ask_held o a p = p ∙ sym (rw (← e, o))
+
   -- a search
   module _ (o : Option ℕ) (p : Place) (e : place_of p ≡ o) where
     pub ask_unplaced : p ≡ Nothing → Refuse r ≡ decided (first_no ((is_place o otherwise r) ∷ qs)) d

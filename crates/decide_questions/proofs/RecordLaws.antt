@@ -5,7 +5,7 @@ use mathlib.Core.List.{List, [], ◌∷◌}
 use Prim.Native.Nat.{ℕ, ◌≤◌}
 use lib.Dec.{eqb}
 use lib.ListN.{length, get_or, take}
-use borrow.Author.Tests.{not-true, not-false}
+use borrow.Author.Tests.{not-false}
 use Rattle.byte_strings.proofs.Flags.{and_first, and_second}
 use Rattle.text_timestamps.specs.Timestamps.{timestamp_of, is_later}
 use Rattle.field_values.specs.Values.{values_of}
@@ -77,7 +77,7 @@ module _ (c : Call) (p : List ℕ) (at : Bounds) (only : OnlyText p at) (S : Lis
     open_by e = (rw (← h, ← g) at e) ∙ open_is c (values_of p) r only.typed only.stands.1
 
     -- once the record parses and is in form: what is asked of a public key then,
-    module _ (t u : Bool) (o : not t ≡ false) (m : not u ≡ false) where
+    module _ (t u : Bool) (o : not t ≡ false) (m : u ≡ true) where
       abbrev start_later : List Question
       start_later =
           (is_later (timestamp_of (expiry_in r)) (timestamp_of x.clock) otherwise Expired)
@@ -86,7 +86,7 @@ module _ (c : Call) (p : List ℕ) (at : Bounds) (only : OnlyText p at) (S : Lis
           ∷ []
 
       pub start_then : t ≡ parses_public_key r → u ≡ public_key_in_form r → d ≡ decided (first_no start_later) (Start (place_in S (session_place name S))) → d ≡ decision_for c KC (values_of p)
-      start_then q v e = start_by (e ∙ sym (rw (← q, not-false t o, ← v, not-false u m)))
+      start_then q v e = start_by (e ∙ sym (rw (← q, not-false t o, ← v, m)))
 
       -- and of a load response, of the slot's row
       abbrev open_later : SlotRow → List Question
@@ -97,15 +97,15 @@ module _ (c : Call) (p : List ℕ) (at : Bounds) (only : OnlyText p at) (S : Lis
 
       module _ (q : t ≡ parses_response r) (v : u ≡ response_in_form r) where
         pub open_then : (row : SlotRow) → d ≡ decided (first_no (open_later row)) (Open (place_in S (slot_place name S))) → row ≡ slot_named name S → d ≡ decision_for c KR (values_of p)
-        open_then row e at_row = open_by ((rw at_row at e) ∙ sym (rw (← q, not-false t o, ← v, not-false u m)))
+        open_then row e at_row = open_by ((rw at_row at e) ∙ sym (rw (← q, not-false t o, ← v, m)))
 
         -- once the slot is found, in row k, and its state tested
         module _ (f : Place) (pl : place_of f ≡ slot_place name S) (k : ℕ) (found : f ≡ At k) (b : Bool) (row : SlotRow) (is : b ≡ has_state Pending row) where
-          pub open_state_no : not b ≡ true → d ≡ Refuse WrongState → row ≡ slot_named name S → d ≡ decision_for c KR (values_of p)
-          open_state_no held e = open_then row (e ∙ sym (rw (← pl, found, ← is, not-true b held)))
+          pub open_state_no : b ≡ false → d ≡ Refuse WrongState → row ≡ slot_named name S → d ≡ decision_for c KR (values_of p)
+          open_state_no held e = open_then row (e ∙ sym (rw (← pl, found, ← is, held)))
 
-          pub open_state_yes : not b ≡ false → d ≡ decided (first_no (response_questions x r row)) (Open k) → row ≡ slot_named name S → d ≡ decision_for c KR (values_of p)
-          open_state_yes held e = open_then row (e ∙ sym (rw (← pl, found, ← is, not-false b held)))
+          pub open_state_yes : b ≡ true → d ≡ decided (first_no (response_questions x r row)) (Open k) → row ≡ slot_named name S → d ≡ decision_for c KR (values_of p)
+          open_state_yes held e = open_then row (e ∙ sym (rw (← pl, found, ← is, held)))
 
 -- two strings: d is what the code has decided of any registers that have the keys
 module _ (c : Call) (p : List ℕ) (f : TwoTexts) (w : first_between p f ≡ first_text_in (values_of p)) where
@@ -145,12 +145,12 @@ module _ (c : Call) (p : List ℕ) (z : Texts) (both : BothTexts p z) (S : List 
 
     -- once the slot is found and its state tested: the rest was asked of the card, by the keys of the registers
     module _ (f : Place) (pl : place_of f ≡ slot_place slot S) (k : ℕ) (found : f ≡ At k) (b : Bool) (row : SlotRow) (is : b ≡ has_state Loading row) where
-      pub load_state_no : not b ≡ true → d ≡ Refuse WrongState → row ≡ slot_named slot S → d ≡ decision_for c KL (values_of p)
-      load_state_no held e = load_then row (e ∙ sym (rw (← pl, found, ← is, not-true b held)))
+      pub load_state_no : b ≡ false → d ≡ Refuse WrongState → row ≡ slot_named slot S → d ≡ decision_for c KL (values_of p)
+      load_state_no held e = load_then row (e ∙ sym (rw (← pl, found, ← is, held)))
 
-      pub load_state_yes : not b ≡ false → (keys : List ℕ) → AreKeys keys c.registers → (card : List ℕ) → card ≡ card_in wrapped
+      pub load_state_yes : b ≡ true → (keys : List ℕ) → AreKeys keys c.registers → (card : List ℕ) → card ≡ card_in wrapped
           → ((R : List RegisterRow) → AreKeys keys R → d ≡ decided (first_no (store_questions R x card)) (Load (card_place card R))) → row ≡ slot_named slot S → d ≡ decision_for c KL (values_of p)
-      load_state_yes held keys keyed card same all = load_then row ((rw same at (all c.registers keyed)) ∙ sym (rw (← pl, found, ← is, not-false b held)))
+      load_state_yes held keys keyed card same all = load_then row ((rw same at (all c.registers keyed)) ∙ sym (rw (← pl, found, ← is, held)))
 
 -- the card v of a wrapped key that was found in form
 module _ (r v : List ℕ) (e : v ≡ card_in r) (t : Bool) (o : not t ≡ false) where

@@ -35,41 +35,30 @@ decide_key_spec =
     (λ c. search rules)
     (λ c κs. search rules)
     (λ c k h i x.
-    let first = c.before.before.before.before.before.before in
-    let start = first.before.before.before.before.before.before.before.before.before.before in
-    refused _ UnknownSlot _ _ (search rules) (load_then _ _ _ start.requires.1.1 _ h _ _ x _ _ first.before.before.before.before.if1.false first.if2.false first.before.before.before.before.before.before.read_key.ensures.0 first.before.before.read_key_card.ensures.0 _ (search ask_unplaced) refl))
-    (λ c. record { fits = place_fits _ c.before.before.before.slot_place.result _ c.before.before.before.slot_place.ensures.1 c.before.place.given.1 c.before.before.before.before.before.before.before.before.before.before.before.before.before.before.before.before.requires.0 })
-    (λ c. place_in_lem _ _ c.before.before.before.slot_place.result _ c.before.before.before.slot_place.ensures.1 c.before.place.given.1 c.before.before.before.before.before.before.before.before.before.before.before.before.before.before.before.before.requires.0)
+    refused _ UnknownSlot _ _ (search rules) (load_then _ _ _ c.requires.1.1 _ h _ _ x _ _ c.if-not-key.false c.if-not-read.false c.read_key-key.ensures.0 c.read_key_card-read.ensures.0 _ (search ask_unplaced) refl))
+    (λ c. record { fits = place_fits _ c.slot_place-place.result _ c.slot_place-place.ensures.1 c.in-At.is c.requires.0 })
+    (λ c. place_in_lem _ _ c.slot_place-place.result _ c.slot_place-place.ensures.1 c.in-At.is c.requires.0)
     (λ c κs. search rules)
     (λ c κs. search rules)
     (λ c k h i x.
-    let first = c.before.before.before.before.before.before.before.before.before.before in
-    let start = first.before.before.before.before.before.before.before.before.before.before in
-    refused _ WrongState _ _ (search rules) (load_state_no _ _ _ start.requires.1.1 _ h _ _ x _ _ first.before.before.before.before.if1.false first.if2.false first.before.before.before.before.before.before.read_key.ensures.0 first.before.before.read_key_card.ensures.0 _ c.before.before.before.before.before.before.before.slot_place.ensures.0 _ c.before.before.before.before.before.place.given.1 _ _ c.before.before.has_state.ensures c.before.if3.true refl (row_at _ _ (search (start.well-formed, rules)) start.requires.0 _ c.before.before.before.before.before.before.before.slot_place.result c.before.before.before.before.before.before.before.slot_place.ensures.0 c.before.before.before.before.before.before.before.slot_place.ensures.1 _ c.before.before.before.before.before.place.given.1 _)))
+    refused _ WrongState _ _ (search rules) (load_state_no _ _ _ c.requires.1.1 _ h _ _ x _ _ c.if-not-key.false c.if-not-read.false c.read_key-key.ensures.0 c.read_key_card-read.ensures.0 _ c.slot_place-place.ensures.0 _ c.in-At.is _ _ c.has_state.ensures c.if-not-has_state.true refl (row_at _ _ (search (c.well_formed, rules)) c.requires.0 _ c.slot_place-place.result c.slot_place-place.ensures.0 c.slot_place-place.ensures.1 _ c.in-At.is _)))
     (λ c. search rules)
     (λ c κs.
-    let first = c.before.before.before.before.before.before.before.before.before.before.before in
-    let fields = found_fields _ _ _ _ _ first.before.before.before.before.before.before.read_key.ensures.1 first.before.before.before.before.if1.false in
+    let fields = found_fields _ _ _ _ _ c.read_key-key.ensures.1 c.if-not-key.false in
     search (field_fits, fields, rules))
     (λ c κs.
-    let first = c.before.before.before.before.before.before.before.before.before.before.before.before in
-    let start = first.before.before.before.before.before.before.before.before.before.before in
-    let fields = found_fields _ _ _ _ _ first.before.before.before.before.before.before.read_key.ensures.1 first.before.before.before.before.if1.false in
-    let card = part_is bar 3 _ _ fields 2 (omega arith) _ c.part.ensures in
-    (start.requires.1.0, (card_in_form _ _ card _ first.if2.false first.before.before.read_key_card.ensures.0, card_values _ _ card _ first.if2.false _ first.before.before.read_key_card.ensures.1)))
+    let fields = found_fields _ _ _ _ _ c.read_key-key.ensures.1 c.if-not-key.false in
+    let card = part_is bar 3 _ _ fields 2 (omega arith) _ c.part-card.ensures in
+    (c.requires.1.0, (card_in_form _ _ card _ c.if-not-read.false c.read_key_card-read.ensures.0, card_values _ _ card _ c.if-not-read.false _ c.read_key_card-read.ensures.1)))
     (λ c. search rules)
     (λ c κs.
-    let first = c.before.before.before.before.before.before.before.before.before.before.before.before.before.before in
-    let start = first.before.before.before.before.before.before.before.before.before.before in
-    let fields = found_fields _ _ _ _ _ first.before.before.before.before.before.before.read_key.ensures.1 first.before.before.before.before.if1.false in
-    let both = start.requires.1.1 in
+    let fields = found_fields _ _ _ _ _ c.read_key-key.ensures.1 c.if-not-key.false in
+    let both = c.requires.1.1 in
     (both.second_stands.0.0, part_fits _ _ both.second_stands.0 _ (field_fits bar 3 _ _ fields 2 (omega arith))))
     (λ c κs. search rules)
     (λ c k h i x.
-    let first = c.before.before.before.before.before.before.before.before.before.before.before.before.before.before.before.before in
-    let start = first.before.before.before.before.before.before.before.before.before.before in
-    let fields = found_fields _ _ _ _ _ first.before.before.before.before.before.before.read_key.ensures.1 first.before.before.before.before.if1.false in
-    let card = part_is bar 3 _ _ fields 2 (omega arith) _ c.before.before.before.before.part.ensures in
-    loaded _ _ start.requires.1.1 _ _ (field_fits bar 3 _ _ fields 2 (omega arith), field_is bar 3 _ _ fields 2 (omega arith)) (first.before.before.read_key_card.ensures.1 (not-false _ first.if2.false)) _ _ (search (grants, c.before.before.before.decide_store.ensures k.registers i))
-    c.load_parts.ensures.0 _ c.before.inside.ensures c.load_parts.ensures.1.0 c.load_parts.ensures.1.1 _
-    (load_state_yes _ _ _ start.requires.1.1 _ h _ _ x _ _ first.before.before.before.before.if1.false first.if2.false first.before.before.before.before.before.before.read_key.ensures.0 first.before.before.read_key_card.ensures.0 _ c.before.before.before.before.before.before.before.before.before.before.before.before.before.slot_place.ensures.0 _ c.before.before.before.before.before.before.before.before.before.before.before.place.given.1 _ _ c.before.before.before.before.before.before.before.before.has_state.ensures c.before.before.before.before.before.before.before.if3.false _ i _ card c.before.before.before.decide_store.ensures (row_at _ _ (search (start.well-formed, rules)) start.requires.0 _ c.before.before.before.before.before.before.before.before.before.before.before.before.before.slot_place.result c.before.before.before.before.before.before.before.before.before.before.before.before.before.slot_place.ensures.0 c.before.before.before.before.before.before.before.before.before.before.before.before.before.slot_place.ensures.1 _ c.before.before.before.before.before.before.before.before.before.before.before.place.given.1 _))))
+    let fields = found_fields _ _ _ _ _ c.read_key-key.ensures.1 c.if-not-key.false in
+    let card = part_is bar 3 _ _ fields 2 (omega arith) _ c.part-card.ensures in
+    loaded _ _ c.requires.1.1 _ _ (field_fits bar 3 _ _ fields 2 (omega arith), field_is bar 3 _ _ fields 2 (omega arith)) (c.read_key_card-read.ensures.1 (not-false _ c.if-not-read.false)) _ _ (search (grants, c.decide_store-decision.ensures k.registers i))
+    c.load_parts-parts.ensures.0 _ c.inside.ensures c.load_parts-parts.ensures.1.0 c.load_parts-parts.ensures.1.1 _
+    (load_state_yes _ _ _ c.requires.1.1 _ h _ _ x _ _ c.if-not-key.false c.if-not-read.false c.read_key-key.ensures.0 c.read_key_card-read.ensures.0 _ c.slot_place-place.ensures.0 _ c.in-At.is _ _ c.has_state.ensures c.if-not-has_state.false _ i _ card c.decide_store-decision.ensures (row_at _ _ (search (c.well_formed, rules)) c.requires.0 _ c.slot_place-place.result c.slot_place-place.ensures.0 c.slot_place-place.ensures.1 _ c.in-At.is _))))

@@ -31,22 +31,16 @@ decide_load_response_spec =
     (λ c. search rules)
     (λ c κs. search rules)
     (λ c k h x.
-    let first = c.before.before.before.before.before.before.before in
-    let start = first.before.before.before.before.before.before.before in
-    refused _ UnknownSlot _ _ (search rules) (open_then _ _ _ start.requires.1 _ h _ _ x _ _ first.before.before.if1.false first.if2.false first.before.before.before.before.read_response.ensures.0 first.before.is_response_in_form.ensures _ (search ask_unplaced) refl))
+    refused _ UnknownSlot _ _ (search rules) (open_then _ _ _ c.requires.1 _ h _ _ x _ _ c.if-not-answer.false c.if-not-is_response_in_form.false c.read_response-answer.ensures.0 c.is_response_in_form.ensures _ (search ask_unplaced) refl))
     (λ c. search (place_fits, rules))
     (λ c. search (place_in_lem, rules))
     (λ c κs. search rules)
     (λ c κs. search rules)
     (λ c k h x.
-    let first = c.before.before.before.before.before.before.before.before.before.before.before in
-    let start = first.before.before.before.before.before.before.before in
-    refused _ WrongState _ _ (search rules) (open_state_no _ _ _ start.requires.1 _ h _ _ x _ _ first.before.before.if1.false first.if2.false first.before.before.before.before.read_response.ensures.0 first.before.is_response_in_form.ensures _ c.before.before.before.before.before.before.before.known_place.ensures.0 _ c.before.before.before.before.before.place.given.1 _ _ c.before.before.has_state.ensures c.before.if3.true refl (row_at _ _ (search (start.well-formed, rules)) start.requires.0 _ c.before.before.before.before.before.before.before.known_place.result c.before.before.before.before.before.before.before.known_place.ensures.0 c.before.before.before.before.before.before.before.known_place.ensures.1 _ c.before.before.before.before.before.place.given.1 _)))
+    refused _ WrongState _ _ (search rules) (open_state_no _ _ _ c.requires.1 _ h _ _ x _ _ c.if-not-answer.false c.if-not-is_response_in_form.false c.read_response-answer.ensures.0 c.is_response_in_form.ensures _ c.known_place-place.ensures.0 _ c.in-At.is _ _ c.has_state.ensures c.if-not-has_state.true refl (row_at _ _ (search (c.well_formed, rules)) c.requires.0 _ c.known_place-place.result c.known_place-place.ensures.0 c.known_place-place.ensures.1 _ c.in-At.is _)))
     (λ c κs. search found_response)
-    (λ c κs. (c.before.before.before.before.before.before.before.before.before.before.before.before.before.before.before.before.before.before.requires.1.stands.0.0, search part_fits))
+    (λ c κs. (c.requires.1.stands.0.0, search part_fits))
     (λ c κs. search rules)
     (λ c k h x.
-    let first = c.before.before.before.before.before.before.before.before.before.before.before.before.before in
-    let start = first.before.before.before.before.before.before.before in
-    opened _ _ start.requires.1 _ c.before.before.before.before.before.before.before.before.before.before.kmcid_bounds.ensures _ _ (search (grants, c.before.before.decide_response.ensures)) _ c.before.inside.ensures c.open_parts.ensures _
-    (open_state_yes _ _ _ start.requires.1 _ h _ _ x _ _ first.before.before.if1.false first.if2.false first.before.before.before.before.read_response.ensures.0 first.before.is_response_in_form.ensures _ c.before.before.before.before.before.before.before.before.before.known_place.ensures.0 _ c.before.before.before.before.before.before.before.place.given.1 _ _ c.before.before.before.before.has_state.ensures c.before.before.before.if3.false c.before.before.decide_response.ensures (row_at _ _ (search (start.well-formed, rules)) start.requires.0 _ c.before.before.before.before.before.before.before.before.before.known_place.result c.before.before.before.before.before.before.before.before.before.known_place.ensures.0 c.before.before.before.before.before.before.before.before.before.known_place.ensures.1 _ c.before.before.before.before.before.before.before.place.given.1 _))))
+    opened _ _ c.requires.1 _ c.kmcid_bounds-kmcid.ensures _ _ (search (grants, c.decide_response-decision.ensures)) _ c.inside.ensures c.open_parts-parts.ensures _
+    (open_state_yes _ _ _ c.requires.1 _ h _ _ x _ _ c.if-not-answer.false c.if-not-is_response_in_form.false c.read_response-answer.ensures.0 c.is_response_in_form.ensures _ c.known_place-place.ensures.0 _ c.in-At.is _ _ c.has_state.ensures c.if-not-has_state.false c.decide_response-decision.ensures (row_at _ _ (search (c.well_formed, rules)) c.requires.0 _ c.known_place-place.result c.known_place-place.ensures.0 c.known_place-place.ensures.1 _ c.in-At.is _))))

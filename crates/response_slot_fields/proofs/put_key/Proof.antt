@@ -11,8 +11,6 @@ put_key_spec =
     (λ c. search rules)
     (λ c κs. search rules)
     (λ c. search rules)
-    (λ c κs. search rules)
-    (λ c. search rules)
     (λ c. (search key_absent, search rules))
     (λ c κs. search rules)
     (λ c κs. search rules)

@@ -12,4 +12,4 @@ put_register_spec =
     (λ c κs. search (number_room, rules))
     (λ c. search rules)
     (λ c. (search number_told, search rules))
-    (λ c. (search (other_untold, c.if1.false), search rules)))
+    (λ c. (search (other_untold, c.if-owner-slot.false), search rules)))

@@ -13,25 +13,25 @@ use Rattle.response_slot_queries.proofs.QueryLaws.{one_number, numbers_told, own
 use Rattle.response_slot_queries.proofs.put_registers.Statement.{statement}
 use Rattle.response_slot_queries.proofs.put_registers.Tie as tie
 
-abbrev invariant-loop : tie.invariant-loop
-invariant-loop dst₀ at m slot owners end₀ i₀ dst end i = (length owners ≡ 32) × (m ≤ 32) × (i ≤ m) × (length dst ≡ length dst₀) × (end ≤ at + 12 * i) × Remains dst₀ at (payload_bytes (number_fields (numbers_from (is_the slot) 1 (take m owners)))) dst end (in_turn (one_number slot) i (drop i (take m owners)))
+abbrev invariant-loop-i : tie.invariant-loop-i
+invariant-loop-i dst₀ at m slot owners end₀ i₀ dst end i = (length owners ≡ 32) × (m ≤ 32) × (i ≤ m) × (length dst ≡ length dst₀) × (end ≤ at + 12 * i) × Remains dst₀ at (payload_bytes (number_fields (numbers_from (is_the slot) 1 (take m owners)))) dst end (in_turn (one_number slot) i (drop i (take m owners)))
 
-abbrev decreases-loop : tie.decreases-loop
-decreases-loop dst₀ at m slot owners end₀ i₀ dst end i = m - i
+abbrev decreases-loop-i : tie.decreases-loop-i
+decreases-loop-i dst₀ at m slot owners end₀ i₀ dst end i = m - i
 
-loop_again : tie.Need-loop-preserved invariant-loop decreases-loop
+loop_again : tie.Need-loop-i-preserved invariant-loop-i decreases-loop-i
 loop_again c =
-    let wrote = c.before.before.put_register.ensures in
+    let wrote = c.before.before.put_register-end.ensures in
     let test = c.before.before.before.before in
-    let inv = test.before.loop.invariant in
-    (search rules, search rules, search rules, search rules, search rules, owner_told _ _ _ _ _ wrote.0 inv.5 inv.0 inv.1 test.loop-test.true)
+    let inv = test.before.loop-i.invariant in
+    (search rules, search rules, search rules, search rules, search rules, owner_told _ _ _ _ _ wrote.0 inv.5 inv.0 inv.1 test.loop-i-test.true)
 
 pub put_registers_spec : {M : Type 1} → statement M
 put_registers_spec =
     tie.close
     (tie.spec
-    invariant-loop
-    decreases-loop
+    invariant-loop-i
+    decreases-loop-i
     (λ c. (search rules, search rules, search rules, refl, search rules, search (all_remains, numbers_told)))
     (λ c. search rules)
     (λ c. search rules)

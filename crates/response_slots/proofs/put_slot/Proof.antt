@@ -12,7 +12,6 @@ put_slot_spec =
     (λ c κs. search rules)
     (λ c κs. search rules)
     (λ c. search rules)
-    (λ c. search rules)
     (λ c κs. (search (sixteen, rules), search (sixteen, rules), search rules))
     (λ c. search rules)
     (λ c. search rules)
