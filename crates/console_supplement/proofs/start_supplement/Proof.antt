@@ -8,7 +8,7 @@ pub start_supplement_spec : {M : Type 1} → statement M
 start_supplement_spec =
     tie.close
     (tie.spec
-    (λ c κs. search rules)
+    (λ c. search rules)
     (λ c κs. search rules)
     (λ c κs. search rules)
     (λ c κs. search rules)
