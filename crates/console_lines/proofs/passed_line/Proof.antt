@@ -8,10 +8,8 @@ pub passed_line_spec : {M : Type 1} → statement M
 passed_line_spec =
     tie.close
     (tie.spec
-    (λ c. search rules)
     (λ c κs. search rules)
     (λ c. search passed_cases)
-    (λ c. search rules)
     (λ c κs. search rules)
     (λ c. search passed_cases)
     (λ c. search passed_cases))
