@@ -36,7 +36,7 @@ decide_spec =
     (λ c κs. search rules)
     (λ c κs. (search slots_within, search registers_within, search is_one_of_ten_lem))
     (λ c R found.
-    let first = c.before.before.before.before.before.before.before.before.before.before.before.before.before.before.before.before.before.first_refusal.ensures in
+    let first = c.before.before.before.before.before.before.before.before.before.before.before.before.before.before.before.before.before.first_refusal-first.ensures in
     let third = found (search (counts_yes, first)) in
     let keyed = third.1 (search not-false) in
     search (command_decided, first)))
