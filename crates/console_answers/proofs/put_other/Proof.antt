@@ -9,7 +9,6 @@ put_other_spec =
     tie.close
     (tie.spec
     (λ c κs. search rules)
-    (λ c. search rules)
     (λ c κs. search rules)
     (λ c. search rules)
     (λ c. (search other_line_lem, search rules)))

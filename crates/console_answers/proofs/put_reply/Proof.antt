@@ -8,7 +8,6 @@ pub put_reply_spec : {M : Type 1} → statement M
 put_reply_spec =
     tie.close
     (tie.spec
-    (λ c. search rules)
     (λ c κs. search rules)
     (λ c. search rules)
     (λ c. (search no_reply, search rules))

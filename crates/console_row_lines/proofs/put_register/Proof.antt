@@ -11,7 +11,7 @@ put_register_spec =
     (λ c κs. search rules)
     (λ c. (search no_register, search rules))
     (λ c. search rules)
-    (λ c κs. search rules)
+    (λ c. search rules)
     (λ c. search rules)
     (λ c. search rules)
     (λ c κs. search rules)
