@@ -13,7 +13,6 @@ respond_spec =
     (λ c. search rules)
     (λ c. (search refused_written, search rules))
     (λ c κs. search rules)
-    (λ c. search rules)
     (λ c κs. (search head_long, search head_fits))
     (λ c κs. (search rules, search still_room, search fields_fit))
     (λ c κs. search ending_fits)

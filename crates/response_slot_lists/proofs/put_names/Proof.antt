@@ -14,18 +14,18 @@ use Rattle.response_slot_lists.proofs.ListedNames.{one_name, names_told, places_
 use Rattle.response_slot_lists.proofs.put_names.Statement.{statement}
 use Rattle.response_slot_lists.proofs.put_names.Tie as tie
 
-abbrev invariant-loop : tie.invariant-loop
-invariant-loop dst₀ at n slots places end₀ i₀ dst end i = (length slots ≡ 8) × (n ≤ 8) × (length places ≡ 8) × (i ≤ 8) × (are_below 8 (drop i places) ≡ true) × (length dst ≡ length dst₀) × (end ≤ at + 42 * i) × Remains dst₀ at (payload_bytes (name_fields (slot_names (take n slots)))) dst end (in_turn (one_name slots) i (drop i places))
+abbrev invariant-loop-i : tie.invariant-loop-i
+invariant-loop-i dst₀ at n slots places end₀ i₀ dst end i = (length slots ≡ 8) × (n ≤ 8) × (length places ≡ 8) × (i ≤ 8) × (are_below 8 (drop i places) ≡ true) × (length dst ≡ length dst₀) × (end ≤ at + 42 * i) × Remains dst₀ at (payload_bytes (name_fields (slot_names (take n slots)))) dst end (in_turn (one_name slots) i (drop i places))
 
-abbrev decreases-loop : tie.decreases-loop
-decreases-loop dst₀ at n slots places end₀ i₀ dst end i = 8 - i
+abbrev decreases-loop-i : tie.decreases-loop-i
+decreases-loop-i dst₀ at n slots places end₀ i₀ dst end i = 8 - i
 
 pub put_names_spec : {M : Type 1} → statement M
 put_names_spec =
     tie.close
     (tie.spec
-    invariant-loop
-    decreases-loop
+    invariant-loop-i
+    decreases-loop-i
     (λ c κs. search rules)
     (λ c. (search rules, search rules, search rules, search rules, search (places_below, rules), refl, search rules, search (all_remains, names_told)))
     (λ c. search rules)
