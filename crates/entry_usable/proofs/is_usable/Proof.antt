@@ -5,7 +5,7 @@ use borrow.Author.Rules.{rules}
 use Rattle.entry_usable.proofs.is_usable.Statement.{statement}
 use Rattle.entry_usable.proofs.is_usable.Tie as tie
 
-returns_2 : tie.Need-returns-2
+returns_2 : tie.Need-returns-then-not-f
 returns_2 c = search sound_no
 
 pub is_usable_spec : {M : Type 1} → statement M
@@ -19,7 +19,7 @@ is_usable_spec =
     returns_2
     (λ c. search first_no_lem)
     (λ c. search (beyond_no, few_registers))
-    (λ c κs. (search rules, in_places _ _ c.before.if4.false (few_registers _ _ _ c.before.before.before.before.before.before.before.before.are_counts.ensures c.before.before.before.before.before.before.before.if1.false)))
+    (λ c κs. (search rules, in_places _ _ c.if-owner-eq0.false (few_registers _ _ _ c.are_counts.ensures c.if-not-f.false)))
     (λ c. search (free_no, few_registers))
-    (λ c κs. (search rules, in_places _ _ c.before.before.before.if4.false (few_registers _ _ _ c.before.before.before.before.before.before.before.before.before.before.are_counts.ensures c.before.before.before.before.before.before.before.before.before.if1.false)))
+    (λ c κs. (search rules, in_places _ _ c.if-owner-eq0.false (few_registers _ _ _ c.are_counts.ensures c.if-not-f.false)))
     (λ c. search (mark_decides, few_registers, rules)))
