@@ -4,7 +4,7 @@ use borrow.Author.Rules.{rules}
 use Rattle.console_state.proofs.checked.Statement.{statement}
 use Rattle.console_state.proofs.checked.Tie as tie
 
-returns_2 : tie.Need-returns-2
+returns_2 : tie.Need-returns
 returns_2 c = search row_lacking
 
 pub checked_spec : {M : Type 1} → statement M

@@ -4,10 +4,10 @@ use borrow.Author.Rules.{rules}
 use Rattle.console_state.proofs.set_by.Statement.{statement}
 use Rattle.console_state.proofs.set_by.Tie as tie
 
-returns : tie.Need-returns
+returns : tie.Need-returns-in-Tables
 returns c = search tables_set
 
-returns_6 : tie.Need-returns-6
+returns_6 : tie.Need-returns-in-Register
 returns_6 c = search register_set
 
 pub set_by_spec : {M : Type 1} → statement M

@@ -12,18 +12,18 @@ use Rattle.console_text.proofs.TextLaws.{one_byte, text_told}
 use Rattle.console_text.proofs.put_text.Statement.{statement}
 use Rattle.console_text.proofs.put_text.Tie as tie
 
-abbrev invariant-loop : tie.invariant-loop
-invariant-loop dst₀ at s end₀ i₀ dst end i = (i ≤ length s) × (length dst ≡ length dst₀) × (end ≡ at + i) × Remains dst₀ at (map legible s) dst end (in_turn one_byte i (drop i s))
+abbrev invariant-loop-i : tie.invariant-loop-i
+invariant-loop-i dst₀ at s end₀ i₀ dst end i = (i ≤ length s) × (length dst ≡ length dst₀) × (end ≡ at + i) × Remains dst₀ at (map legible s) dst end (in_turn one_byte i (drop i s))
 
-abbrev decreases-loop : tie.decreases-loop
-decreases-loop dst₀ at s end₀ i₀ dst end i = length s - i
+abbrev decreases-loop-i : tie.decreases-loop-i
+decreases-loop-i dst₀ at s end₀ i₀ dst end i = length s - i
 
 pub put_text_spec : {M : Type 1} → statement M
 put_text_spec =
     tie.close
     (tie.spec
-    invariant-loop
-    decreases-loop
+    invariant-loop-i
+    decreases-loop-i
     (λ c. (search rules, refl, search rules, search (all_remains, text_told)))
     (λ c. search rules)
     (λ c κs. search rules)

@@ -4,10 +4,10 @@ use borrow.Author.Rules.{rules}
 use Rattle.entry_changes.proofs.change_registers.Statement.{statement}
 use Rattle.entry_changes.proofs.change_registers.Tie as tie
 
-returns_3 : tie.Need-returns-3
+returns_3 : tie.Need-returns-in-Close
 returns_3 c = search (close_left, rules)
 
-returns_4 : tie.Need-returns-4
+returns_4 : tie.Need-returns-in-DeleteSlot
 returns_4 c = search (delete_slot_left, rules)
 
 pub change_registers_spec : {M : Type 1} → statement M

@@ -4,10 +4,10 @@ use borrow.Author.Rules.{rules}
 use Rattle.entry_changes.proofs.change_slots.Statement.{statement}
 use Rattle.entry_changes.proofs.change_slots.Tie as tie
 
-returns : tie.Need-returns
+returns : tie.Need-returns-in-Reset
 returns c = search reset_made
 
-returns_4 : tie.Need-returns-4
+returns_4 : tie.Need-returns-in-Close
 returns_4 c = search (close_made, close_can, rules)
 
 pub change_slots_spec : {M : Type 1} → statement M

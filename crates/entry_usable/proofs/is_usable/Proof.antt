@@ -19,7 +19,7 @@ is_usable_spec =
     returns_2
     (λ c. search first_no_lem)
     (λ c. search (beyond_no, few_registers))
-    (λ c κs. (search rules, in_places _ _ c.if-owner-eq0.false (few_registers _ _ _ c.are_counts.ensures c.if-not-f.false)))
+    (λ c κs. (search rules, in_places _ _ c.if-m-register.false (few_registers _ _ _ c.are_counts.ensures c.if-not-are_counts.false-raw)))
     (λ c. search (free_no, few_registers))
-    (λ c κs. (search rules, in_places _ _ c.if-owner-eq0.false (few_registers _ _ _ c.are_counts.ensures c.if-not-f.false)))
+    (λ c κs. (search rules, in_places _ _ c.if-m-register.false (few_registers _ _ _ c.are_counts.ensures c.if-not-are_counts.false-raw)))
     (λ c. search (mark_decides, few_registers, rules)))
