@@ -5,15 +5,15 @@ use borrow.Author.Rules.{rules}
 use Rattle.entry_core.proofs.find.Statement.{statement}
 use Rattle.entry_core.proofs.find.Tie as tie
 
-returns : tie.Need-returns
+returns : tie.Need-returns-then-not-are_counts
 returns c =
     let p = c.before.before.are_counts.ensures in
-    let o = c.before.if1.true in
+    let o = c.before.if-not-are_counts.true in
     ((λ z. not_counted _ _ _ p o z), (λ z. not_counted _ _ _ p o z))
 
-returns_2 : tie.Need-returns-2
+returns_2 : tie.Need-returns
 returns_2 c =
-    let h = few_registers _ _ _ c.before.before.before.are_counts.ensures c.before.before.if1.false in
+    let h = few_registers _ _ _ c.before.before.before.are_counts.ensures c.before.before.if-not-are_counts.false in
     let z = c.before.before.before.before.requires in
     let e = c.find.ensures in
     ((λ y. is_found _ _ z h _ _ _ e.0 _ e.1.0), (λ y. are_owners _ _ z h _ _ _ e.0 _ e.1.1))
