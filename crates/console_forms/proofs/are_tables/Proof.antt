@@ -6,21 +6,18 @@ use borrow.Author.Rules.{rules}
 use Rattle.console_forms.proofs.are_tables.Statement.{statement}
 use Rattle.console_forms.proofs.are_tables.Tie as tie
 
-returns : tie.Need-returns-then-not-is_number
-unfolding are_tables
-returns c = search (chain, cuts)
-
 returns_2 : tie.Need-returns
 unfolding are_tables
 returns_2 c = search (chain, cuts)
 
 pub are_tables_spec : {M : Type 1} → statement M
+unfolding are_tables
 are_tables_spec =
     tie.close
     (tie.spec
     (λ c κs. search rules)
     (λ c κs. search rules)
-    returns
+    (λ c. search (chain, cuts))
     (λ c κs. search rules)
     (λ c κs. search rules)
     returns_2)

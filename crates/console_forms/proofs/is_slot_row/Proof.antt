@@ -6,29 +6,22 @@ use borrow.Author.Rules.{rules}
 use Rattle.console_forms.proofs.is_slot_row.Statement.{statement}
 use Rattle.console_forms.proofs.is_slot_row.Tie as tie
 
-returns : tie.Need-returns-then-not-in_form
-unfolding is_slot_row
-returns c = search (chain, cuts)
-
-returns_2 : tie.Need-returns-then-not-in_form-2
-unfolding is_slot_row
-returns_2 c = search (chain, cuts)
-
 returns_3 : tie.Need-returns
 unfolding is_slot_row
 returns_3 c = search (chain, cuts)
 
 pub is_slot_row_spec : {M : Type 1} → statement M
+unfolding is_slot_row
 is_slot_row_spec =
     tie.close
     (tie.spec
     (λ c κs. search rules)
     (λ c κs. search rules)
-    returns
+    (λ c. search (chain, cuts))
     (λ c κs. search rules)
     (λ c κs. search rules)
     (λ c κs. search rules)
-    returns_2
+    (λ c. search (chain, cuts))
     (λ c κs. search rules)
     (λ c κs. search rules)
     (λ c κs. search rules)

@@ -10,18 +10,18 @@ use Rattle.console_row_lines.specs.OneRow.{register_line}
 use Rattle.console_rows.proofs.put_registers.Statement.{statement}
 use Rattle.console_rows.proofs.put_registers.Tie as tie
 
-abbrev invariant-loop : tie.invariant-loop
-invariant-loop dst₀ at registers end₀ i₀ dst end i = (length registers ≡ 32) × (i ≤ 32) × (length dst ≡ length dst₀) × (end ≤ at + 544 * i) × Remains dst₀ at (in_turn register_line 0 registers) dst end (in_turn register_line i (drop i registers))
+abbrev invariant-loop-i : tie.invariant-loop-i
+invariant-loop-i dst₀ at registers end₀ i₀ dst end i = (length registers ≡ 32) × (i ≤ 32) × (length dst ≡ length dst₀) × (end ≤ at + 544 * i) × Remains dst₀ at (in_turn register_line 0 registers) dst end (in_turn register_line i (drop i registers))
 
-abbrev decreases-loop : tie.decreases-loop
-decreases-loop dst₀ at registers end₀ i₀ dst end i = 32 - i
+abbrev decreases-loop-i : tie.decreases-loop-i
+decreases-loop-i dst₀ at registers end₀ i₀ dst end i = 32 - i
 
 pub put_registers_spec : {M : Type 1} → statement M
 put_registers_spec =
     tie.close
     (tie.spec
-    invariant-loop
-    decreases-loop
+    invariant-loop-i
+    decreases-loop-i
     (λ c. (search rules, search rules, refl, search rules, record { next = refl; bytes = refl }))
     (λ c. search rules)
     (λ c. search rules)

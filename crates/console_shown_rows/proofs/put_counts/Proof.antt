@@ -13,6 +13,6 @@ put_counts_spec =
     (λ c κs. search rules)
     (λ c κs. search rules)
     (λ c. search rules)
-    (λ c κs. search rules)
+    (λ c. search rules)
     (λ c. search rules)
     (λ c. (search counts_shown_lem, search rules)))

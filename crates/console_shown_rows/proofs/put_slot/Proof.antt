@@ -11,7 +11,7 @@ put_slot_spec =
     (λ c κs. search rules)
     (λ c. (search no_slot, search rules))
     (λ c. search rules)
-    (λ c κs. search rules)
+    (λ c. search rules)
     (λ c. search rules)
     (λ c. search rules)
     (λ c κs. search rules)

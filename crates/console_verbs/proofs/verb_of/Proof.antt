@@ -14,15 +14,12 @@ invariant-loop-k w k₀ k = (k ≤ 15) × (named (drop k verbs) w ≡ named verb
 abbrev decreases-loop-k : tie.decreases-loop-k
 decreases-loop-k w k₀ k = 15 - k
 
-returns : tie.Need-returns-then-same_bytes invariant-loop-k decreases-loop-k
-unfolding verb_of
-returns c = search named_here
-
 returns_2 : tie.Need-returns invariant-loop-k decreases-loop-k
 unfolding verb_of
 returns_2 c = search none_named
 
 pub verb_of_spec : {M : Type 1} → statement M
+unfolding verb_of
 verb_of_spec =
     tie.close
     (tie.spec
@@ -33,7 +30,7 @@ verb_of_spec =
     (λ c. search rules)
     (λ c κs. search rules)
     (λ c κs. search rules)
-    returns
+    (λ c. search named_here)
     (λ c. search rules)
     (λ c. search rules)
     (λ c. (search rules, search named_later))

@@ -7,14 +7,14 @@ use Rattle.entry_core.proofs.find.Tie as tie
 
 returns : tie.Need-returns-then-not-are_counts
 returns c =
-    let p = c.before.before.are_counts.ensures in
-    let o = c.before.if-not-are_counts.true in
+    let p = c.are_counts.ensures in
+    let o = c.if-not-are_counts.true-raw in
     ((λ z. not_counted _ _ _ p o z), (λ z. not_counted _ _ _ p o z))
 
 returns_2 : tie.Need-returns
 returns_2 c =
-    let h = few_registers _ _ _ c.before.before.before.are_counts.ensures c.before.before.if-not-are_counts.false in
-    let z = c.before.before.before.before.requires in
+    let h = few_registers _ _ _ c.are_counts.ensures c.if-not-are_counts.false-raw in
+    let z = c.requires in
     let e = c.find.ensures in
     ((λ y. is_found _ _ z h _ _ _ e.0 _ e.1.0), (λ y. are_owners _ _ z h _ _ _ e.0 _ e.1.1))
 

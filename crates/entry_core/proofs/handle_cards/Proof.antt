@@ -6,7 +6,7 @@ use Rattle.entry_core.proofs.handle_cards.Tie as tie
 
 returns : tie.Need-returns
 returns c =
-    let e = (c.before.before.before.before.before.before.before.before.before.before.before.decide-d.ensures _ c.before.before.before.before.before.before.before.before.before.before.before.before.before.find-f.ensures.0) in
+    let e = (c.decide-d.ensures _ c.find-f.ensures.0) in
     (search (outcome_right, e), (search (responded, e), (search (rows_right, e), search rules)))
 
 pub handle_cards_spec : {M : Type 1} → statement M
@@ -17,9 +17,9 @@ handle_cards_spec =
     (λ c κs. search rules)
     (λ c κs. search rules)
     (λ c κs. search rules)
-    (λ c κs. slots_can _ _ _ _ _ _ _ _ (c.before.before.decide-d.ensures _ c.before.before.before.before.find-f.ensures.0) _ c.before.before.before.before.find-f.ensures.1 _ c.payload-p.ensures)
-    (λ c κs. (search rules, registers_can _ _ _ _ _ _ _ _ (c.before.before.before.before.decide-d.ensures _ c.before.before.before.before.before.before.find-f.ensures.0) _ c.before.before.before.before.before.before.find-f.ensures.1 _ c.before.before.payload-p.ensures))
-    (λ c κs. (search rules, responds _ _ _ _ _ _ _ _ (c.before.before.before.before.before.before.before.before.decide-d.ensures _ c.before.before.before.before.before.before.before.before.before.before.find-f.ensures.0) _ c.before.before.before.before.before.before.before.before.before.before.find-f.ensures.1 _ c.before.before.before.before.before.before.payload-p.ensures _ _ c.before.before.before.change_registers-marks_after.ensures))
+    (λ c κs. slots_can _ _ _ _ _ _ _ _ (c.decide-d.ensures _ c.find-f.ensures.0) _ c.find-f.ensures.1 _ c.payload-p.ensures)
+    (λ c κs. (search rules, registers_can _ _ _ _ _ _ _ _ (c.decide-d.ensures _ c.find-f.ensures.0) _ c.find-f.ensures.1 _ c.payload-p.ensures))
+    (λ c κs. (search rules, responds _ _ _ _ _ _ _ _ (c.decide-d.ensures _ c.find-f.ensures.0) _ c.find-f.ensures.1 _ c.payload-p.ensures _ _ c.change_registers-marks_after.ensures))
     (λ c. search rules)
     (λ c. search rules)
     returns)

@@ -5,9 +5,6 @@ use borrow.Author.Rules.{rules}
 use Rattle.entry_usable.proofs.is_usable.Statement.{statement}
 use Rattle.entry_usable.proofs.is_usable.Tie as tie
 
-returns_2 : tie.Need-returns-then-not-f
-returns_2 c = search sound_no
-
 pub is_usable_spec : {M : Type 1} → statement M
 is_usable_spec =
     tie.close
@@ -16,7 +13,7 @@ is_usable_spec =
     (λ c. search counts_no)
     (λ c. search (lent_front, few_registers))
     (λ c κs. (search few_slots, search (lent_few, few_registers)))
-    returns_2
+    (λ c. search sound_no)
     (λ c. search first_no_lem)
     (λ c. search (beyond_no, few_registers))
     (λ c κs. (search rules, in_places _ _ c.if-m-register.false (few_registers _ _ _ c.are_counts.ensures c.if-not-are_counts.false-raw)))

@@ -16,9 +16,6 @@ invariant-loop-i states m owners marks i₀ i =
 abbrev decreases-loop-i : tie.decreases-loop-i
 decreases-loop-i states m owners marks i₀ i = m - i
 
-returns : tie.Need-returns-then-not-is_mark_right invariant-loop-i decreases-loop-i
-returns c = search marks_not
-
 pub are_marks_right_spec : {M : Type 1} → statement M
 are_marks_right_spec =
     tie.close
@@ -30,7 +27,7 @@ are_marks_right_spec =
     (λ c. search rules)
     (λ c. search rules)
     (λ c κs. search low_owner)
-    returns
+    (λ c. search marks_not)
     (λ c. search rules)
     (λ c. search rules)
     (λ c. (search rules, search rules, search rules, search rules, search rules, search marks_turn))

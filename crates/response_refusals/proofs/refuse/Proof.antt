@@ -4,21 +4,15 @@ use borrow.Author.Rules.{rules}
 use Rattle.response_refusals.proofs.refuse.Statement.{statement}
 use Rattle.response_refusals.proofs.refuse.Tie as tie
 
-returns : tie.Need-returns-then-number-le4
-returns c = (search silently, search rules)
-
-returns_2 : tie.Need-returns-then-number-le7
-returns_2 c = (search generally, search rules)
-
 pub refuse_spec : {M : Type 1} → statement M
 refuse_spec =
     tie.close
     (tie.spec
     (λ c κs. search rules)
-    returns
+    (λ c. (search silently, search rules))
     (λ c κs. (search two_digits_do, search rules, search general_fits))
     (λ c. search rules)
-    returns_2
+    (λ c. (search generally, search rules))
     (λ c κs. search rules)
     (λ c κs. (search two_digits_do, search own_long, search own_fits))
     (λ c. search rules)

@@ -4,21 +4,15 @@ use borrow.Author.Rules.{rules}
 use Rattle.row_soundness.proofs.find.Statement.{statement}
 use Rattle.row_soundness.proofs.find.Tie as tie
 
-returns : tie.Need-returns-then-not-found
-returns c = (search cards_unsound, ((λ z. search rules), (λ z. search rules)))
-
-returns_2 : tie.Need-returns-then-not-are_marks_right
-returns_2 c = (search (marks_wrong, rules), ((λ z. search rules), (λ z. search rules)))
-
 pub find_spec : {M : Type 1} → statement M
 find_spec =
     tie.close
     (tie.spec
     (λ c κs. search rules)
     (λ c κs. search rules)
-    returns
+    (λ c. (search cards_unsound, ((λ z. search rules), (λ z. search rules))))
     (λ c κs. search rules)
     (λ c κs. (search rules, search owners_up))
     (λ c κs. search rules)
-    returns_2
+    (λ c. (search (marks_wrong, rules), ((λ z. search rules), (λ z. search rules))))
     (λ c. (search (marks_sound, rules), (search keys_told, search owners_told))))

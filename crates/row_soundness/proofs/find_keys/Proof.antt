@@ -4,19 +4,13 @@ use borrow.Author.Rules.{rules}
 use Rattle.row_soundness.proofs.find_keys.Statement.{statement}
 use Rattle.row_soundness.proofs.find_keys.Tie as tie
 
-returns : tie.Need-returns-then-not-are_slots_sound
-returns c = (search unsound_cases, ((λ z. search rules), (λ z. search rules)))
-
-returns_4 : tie.Need-returns-then-not-are_keys_distinct
-returns_4 c = (search unsound_cases, ((λ z. search rules), (λ z. search rules)))
-
 pub find_keys_spec : {M : Type 1} → statement M
 find_keys_spec =
     tie.close
     (tie.spec
     (λ c κs. search rules)
     (λ c κs. search rules)
-    returns
+    (λ c. (search unsound_cases, ((λ z. search rules), (λ z. search rules))))
     (λ c κs. search rules)
     (λ c. search rules)
     (λ c. search (filled_front, rules))
@@ -32,5 +26,5 @@ find_keys_spec =
     (λ c. search keys_front)
     (λ c κs. search rules)
     (λ c κs. search rules)
-    returns_4
+    (λ c. (search unsound_cases, ((λ z. search rules), (λ z. search rules))))
     (λ c. (search all_sound, (search rules, search owners_named))))
