@@ -9,10 +9,8 @@ put_counts_spec =
     tie.close
     (tie.spec
     (λ c κs. search rules)
-    (λ c. search rules)
     (λ c κs. search rules)
     (λ c κs. search rules)
-    (λ c. search rules)
-    (λ c. search rules)
+    (λ c κs. search rules)
     (λ c. search rules)
     (λ c. (search counts_shown_lem, search rules)))

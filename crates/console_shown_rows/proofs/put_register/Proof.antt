@@ -4,23 +4,16 @@ use borrow.Author.Rules.{rules}
 use Rattle.console_shown_rows.proofs.put_register.Statement.{statement}
 use Rattle.console_shown_rows.proofs.put_register.Tie as tie
 
-returns : tie.Need-returns
-returns c = (search no_register, search rules)
-
-returns_2 : tie.Need-returns-2
-returns_2 c = (search register_shown_lem, search rules)
-
 pub put_register_spec : {M : Type 1} → statement M
 put_register_spec =
     tie.close
     (tie.spec
     (λ c κs. search rules)
-    returns
-    (λ c. search rules)
+    (λ c. (search no_register, search rules))
     (λ c κs. search rules)
     (λ c. search rules)
     (λ c. search rules)
     (λ c κs. search rules)
     (λ c κs. search rules)
     (λ c. search rules)
-    returns_2)
+    (λ c. (search register_shown_lem, search rules)))

@@ -10,12 +10,10 @@ put_slot_spec =
     (tie.spec
     (λ c κs. search rules)
     (λ c. (search no_slot, search rules))
-    (λ c. search rules)
-    (λ c. search rules)
+    (λ c κs. search rules)
     (λ c. search rules)
     (λ c. search rules)
     (λ c κs. search rules)
-    (λ c. search rules)
     (λ c κs. search rules)
     (λ c κs. search rules)
     (λ c. search rules)

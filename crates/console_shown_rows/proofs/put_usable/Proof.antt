@@ -8,11 +8,9 @@ pub put_usable_spec : {M : Type 1} → statement M
 put_usable_spec =
     tie.close
     (tie.spec
-    (λ c. search rules)
     (λ c κs. search rules)
     (λ c. search rules)
     (λ c. (search yes_shown, search rules))
-    (λ c. search rules)
     (λ c κs. search rules)
     (λ c. search rules)
     (λ c. (search no_shown, search rules)))
