@@ -19,9 +19,9 @@ hand_in_spec =
     (λ c κs. search rules)
     (λ c. search rules)
     (λ c.
-    let y = c.before.before.before.before.before.before.before.before.before.before.answer_rows.ensures in
-    let z = c.before.before.before.before.before.before.before.before.before.before.before.before.before.before.before.before.dots.ensures in
-    let k = c.before.before.before.before.before.before.before.before.before.before.before.before.before.before.before.room.ensures in (
-      next_state _ _ _ _ _ _ _ y z k.1 k.0 _ c.with_tables.ensures,
-      (answer_said _ _ _ _ _ _ _ y z k.1 k.0 _ _ _ _ c.before.before.before.before.before.put_answer.ensures.0, search rules),
+    let y = c.before.before.before.before.before.before.before.before.before.before.answer_rows-a.ensures in
+    let z = c.before.before.before.before.before.before.before.before.before.before.before.before.before.before.before.before.dots-response.ensures in
+    let k = c.before.before.before.before.before.before.before.before.before.before.before.before.before.before.before.room-n.ensures in (
+      next_state _ _ _ _ _ _ _ y z k.1 k.0 _ c.with_tables-after.ensures,
+      (answer_said _ _ _ _ _ _ _ y z k.1 k.0 _ _ _ _ c.before.before.before.before.before.put_answer-length.ensures.0, search rules),
     )))

@@ -10,18 +10,18 @@ use Rattle.console_shown_rows.specs.OneRow.{slot_shown}
 use Rattle.console_show.proofs.put_slots.Statement.{statement}
 use Rattle.console_show.proofs.put_slots.Tie as tie
 
-abbrev invariant-loop : tie.invariant-loop
-invariant-loop dst₀ at slots end₀ i₀ dst end i = (length slots ≡ 8) × (i ≤ 8) × (length dst ≡ length dst₀) × (end ≤ at + 105 * i) × Remains dst₀ at (in_turn slot_shown 0 slots) dst end (in_turn slot_shown i (drop i slots))
+abbrev invariant-loop-i : tie.invariant-loop-i
+invariant-loop-i dst₀ at slots end₀ i₀ dst end i = (length slots ≡ 8) × (i ≤ 8) × (length dst ≡ length dst₀) × (end ≤ at + 105 * i) × Remains dst₀ at (in_turn slot_shown 0 slots) dst end (in_turn slot_shown i (drop i slots))
 
-abbrev decreases-loop : tie.decreases-loop
-decreases-loop dst₀ at slots end₀ i₀ dst end i = 8 - i
+abbrev decreases-loop-i : tie.decreases-loop-i
+decreases-loop-i dst₀ at slots end₀ i₀ dst end i = 8 - i
 
 pub put_slots_spec : {M : Type 1} → statement M
 put_slots_spec =
     tie.close
     (tie.spec
-    invariant-loop
-    decreases-loop
+    invariant-loop-i
+    decreases-loop-i
     (λ c. (search rules, search rules, refl, search rules, record { next = refl; bytes = refl }))
     (λ c. search rules)
     (λ c. search rules)
