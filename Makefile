@@ -3,7 +3,7 @@
 
 # The default: prints the commands with the time that they take.
 help:
-	@echo 'make test                       all that must hold: documents, proofs, wrong answers, comparisons   23 min'
+	@echo 'make test                       all that must hold: documents, proofs, wrong answers, comparisons   40 min'
 	@echo 'make edits CRATES="names"       each wrong answer of these crates, or of all, by its own check          40 min'
 	@echo 'make lib PREFIX=folder          the static library, its header and a pkg-config file          7 min, 5 s'
 	@echo 'make run                        the console on the story of scripts/story.txt                 7 min, 5 s'
@@ -16,6 +16,7 @@ help:
 	@echo 'make documents                  the documents held to the tree                                      10 s'
 	@echo 'make format                     lays the files out                                                   5 s'
 	@echo 'On two cores. Where two times stand, the first is from nothing, the second with all proved already.'
+	@echo 'make test: on four cores, from nothing. The other times are those of the older kit (docs/PORT.md).'
 
 # Holds kit and documents, proves every crate, tries the must-fail edits, runs the programs and the comparison tests.
 test:
