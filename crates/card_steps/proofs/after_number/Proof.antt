@@ -1,5 +1,6 @@
 -- `card_steps::after_number` meets its contract, a law a return.
 use Rattle.card_steps.proofs.Numbers.{number_none, number_other, number_open, number_unended, number_out, number_stands, number_all, limit_start}
+use native.Mathlib.Omega.{arith}
 use borrow.Author.Rules.{rules}
 use Rattle.card_steps.proofs.after_number.Statement.{statement}
 use Rattle.card_steps.proofs.after_number.Tie as tie
@@ -10,7 +11,7 @@ returns_6 c =
     let d = i.before.before.before in
     let l = d.before.before in
     let e = l.before.before.before.before.before.before in (
-      number_stands _ e.requires.1 _ _ _ _ _ l.lesser-limit.ensures.1 _ d.digit_count.ensures.0 _ c.before.is_number.ensures _ l.before.before.name_of.ensures l.before.if-name_of-name.false e.requires.2 i.before.before.if-s-end.false i.if-s-end-ne59.false c.if-not-is_number.false-raw,
+      number_stands _ e.requires.1 _ _ _ _ _ l.lesser-limit.ensures.1 _ d.digit_count.ensures.0 _ c.before.is_number.ensures _ l.before.before.name_of.ensures l.before.if-name_of-name.false e.requires.2 i.before.before.if-s-end.false (omega arith) c.if-not-is_number.false-raw,
       search rules,
     )
 
@@ -50,7 +51,7 @@ after_number_spec =
     let d = c.before.before.before in
     let l = d.before.before in
     let e = l.before.before.before.before.before.before in
-    (number_unended _ e.requires.1 _ _ _ _ _ l.lesser-limit.ensures.1 _ d.digit_count.ensures.0 c.if-s-end-ne59.true, search rules))
+    (number_unended _ e.requires.1 _ _ _ _ _ l.lesser-limit.ensures.1 _ d.digit_count.ensures.0 (search rules), search rules))
     (λ c. search rules)
     (λ c. search rules)
     (λ c. search rules)
