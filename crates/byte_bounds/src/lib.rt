@@ -17,9 +17,7 @@ pub fn part<'a>(bytes: &'a [u8], bounds: Bounds) -> &'a [u8]
     requires { FitIn (length bytes.now) bounds }
     ensures { result.now ≡ bytes_in bytes.now bounds }
 {
-    let start = bounds.start;
-    let end = bounds.end;
-    &bytes[start..end]
+    &bytes[bounds.start..bounds.end]
 }
 
 // The bounds in the whole of what has the bounds inner in its part outer.

@@ -8,15 +8,5 @@ ghost use Rattle.byte_orders.specs.Orders.{is_before};
 pub fn is_before(left: &[u8], right: &[u8]) -> bool
     ensures { result ≡ is_before left.now right.now }
 {
-    let mut i = 0;
-    while i < right.len() {
-        if i >= left.len() {
-            return true;
-        }
-        if left[i] != right[i] {
-            return left[i] < right[i];
-        }
-        i += 1;
-    }
-    false
+    left.cmp(right).is_lt()
 }

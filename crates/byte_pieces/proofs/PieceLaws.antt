@@ -12,7 +12,7 @@ use borrow.Author.Tests.{eq-eqb}
 use Rattle.byte_strings.specs.Strings.{is_not, run, all_of}
 use Rattle.byte_pieces.specs.Pieces.{onto, pieces, is_ended}
 use Rattle.byte_strings.proofs.Flags.{and_first, and_second}
-use Rattle.byte_strings.proofs.StringLaws.{rest, run_le}
+use Rattle.byte_strings.proofs.StringLaws.{run_le}
 
 -- the first piece of a list that has a delimiter, and what follows it; t is whether the list starts with the delimiter
 module _ (d b : ℕ) (bs : List ℕ) where
@@ -65,13 +65,6 @@ ended_first d (b ∷ bs) h = ended_of d b bs (eqb b d) refl h (ended_first d bs)
 ended_none : (d : ℕ) (s : List ℕ) → run (is_not d) s ≡ length s → 0 < length s → is_ended d s ≡ false
 ended_none d [] h l = absurd (omega arith)
 ended_none d (b ∷ bs) h l = open_of d b bs (eqb b d) refl h (ended_none d bs)
-
--- piece_end
-pub end_of : (d : ℕ) (s : List ℕ) (at n : ℕ) → n ≡ run (is_not d) (take (length s - at) (drop at s)) → at + n ≡ at + run (is_not d) (drop at s)
-end_of d s at n e = ap (λ (k : ℕ). at + k) (e ∙ ap (run (is_not d)) (rest s at))
-
-pub end_within : (d : ℕ) (s : List ℕ) (at n : ℕ) → n ≡ run (is_not d) (take (length s - at) (drop at s)) → at ≤ length s → at + n ≤ length s
-end_within d s at n e h = omega (arith, end_of d s at n e, run_le (is_not d) (drop at s), length-drop at s)
 
 -- the piece from `at` to e
 module _ (d : ℕ) (s : List ℕ) (at e : ℕ) (p : e ≡ at + run (is_not d) (drop at s)) where

@@ -8,20 +8,15 @@ use native.Mathlib.Numerals.{add-one}
 use native.Mathlib.Omega.{arith}
 use lib.Dec.{eqb, ltb}
 use lib.ListN.{length, get_or, take, drop, drop_of_length-le, length-drop}
-use lib.Seq.{drop-cons, take_all, take-nil, length-take-le}
-use borrow.Author.Tests.{eq-eqb, ne_eqb, eqb-true, not-true, not-false}
+use lib.Seq.{drop-cons, take_all, take-nil}
+use borrow.Author.Tests.{eq-eqb, eqb-true, not-true, not-false}
+use Rattle.std.specs.List.{fold, zip}
 use Rattle.byte_strings.specs.Strings.{same_bytes, all_of, run}
 use Rattle.byte_strings.proofs.Flags.{nope, and_first, and_second, and_both}
 
 -- a part from a place to the end
 pub rest : (s : List ℕ) (a : ℕ) → take (length s - a) (drop a s) ≡ drop a s
 rest s a = take_all (length s - a) (drop a s) (rw length-drop (omega arith))
-
--- a byte that is not 0 stands within the list
-pub inside : (s : List ℕ) (i x : ℕ) → get_or s i 0 ≡ suc x → i < length s
-inside [] i x e = absurd (omega arith)
-inside (b ∷ bs) zero x e = omega arith
-inside (b ∷ bs) (suc i) x e = let h = inside bs i x e in omega arith
 
 -- a part of a part
 pub drop_take : (m n : ℕ) (l : List ℕ) → drop m (take n l) ≡ take (n - m) (drop m l)
@@ -34,9 +29,12 @@ drop_take (suc m) (suc n) (x ∷ xs) = rw suc-sub-suc (drop_take m n xs)
 abbrev pub is_byte : ℕ → Bool
 is_byte b = ltb b 256
 
--- same_bytes
-same_cons : (a b : List ℕ) (i : ℕ) → i < length a → i < length b → same_bytes (drop i a) (drop i b) ≡ (eqb (get_or a i 0) (get_or b i 0) && same_bytes (drop (i + 1) a) (drop (i + 1) b))
-same_cons a b i h k = rw (add-one, drop-cons a i 0 h, drop-cons b i 0 k)
+-- same_secret: each byte compared with the one at its own place
+same_folded : (a b : List ℕ) (so : Bool) → length a ≡ length b → fold (λ s (p : ℕ × ℕ). s && eqb p.0 p.1) so (zip a b) ≡ (so && same_bytes a b)
+same_folded [] [] so l = sym (and-true so)
+same_folded [] (y ∷ ys) so l = absurd (omega arith)
+same_folded (x ∷ xs) [] so l = absurd (omega arith)
+same_folded (x ∷ xs) (y ∷ ys) so l = same_folded xs ys (so && eqb x y) (omega arith) ∙ and_assoc so (eqb x y) (same_bytes xs ys)
 
 pub same_length : (a b : List ℕ) → (length a ≡ length b → ⊥) → false ≡ same_bytes a b
 same_length [] [] n = absurd (n refl)
@@ -44,30 +42,8 @@ same_length [] (y ∷ ys) n = refl
 same_length (x ∷ xs) [] n = refl
 same_length (x ∷ xs) (y ∷ ys) n = sym (rw (← same_length xs ys (λ e. n (ap suc e))) (and-false (eqb x y)))
 
-module _ (a b : List ℕ) (i : ℕ) (x : Bool) (inv : same_bytes (drop i a) (drop i b) ≡ x) (l : length a ≡ length b) where
-  pub same_ended : length a ≤ i → true ≡ x
-  same_ended k =
-      let p : drop i a ≡ [] = drop_of_length-le a {i = i} k in
-      let q : drop i b ≡ [] = drop_of_length-le b {i = i} (omega arith) in
-      rw (p, q) at inv
-
-  module _ (h : i < length a) where
-    pub same_not : (get_or a i 0 ≡ get_or b i 0 → ⊥) → false ≡ x
-    same_not o = rw (ne_eqb (get_or a i 0) (get_or b i 0) o) at (sym (same_cons a b i h (omega arith)) ∙ inv)
-
-    pub same_turn : get_or a i 0 ≡ get_or b i 0 → same_bytes (drop (i + 1) a) (drop (i + 1) b) ≡ x
-    same_turn o = rw (eq-eqb (get_or a i 0) (get_or b i 0) o) at (sym (same_cons a b i h (omega arith)) ∙ inv)
-
--- the test is equality
--- same_secret: what was compared so far is the same and what is left is, as the whole is, x
-module _ (a b : List ℕ) (so : Bool) (i : ℕ) (x : Bool) (inv : (so && same_bytes (drop i a) (drop i b)) ≡ x) (l : length a ≡ length b) where
-  pub secret_turn : i < length a → ((so && eqb (get_or a i 0) (get_or b i 0)) && same_bytes (drop (i + 1) a) (drop (i + 1) b)) ≡ x
-  secret_turn h =
-      and_assoc so (eqb (get_or a i 0) (get_or b i 0)) (same_bytes (drop (i + 1) a) (drop (i + 1) b))
-      ∙ ap (λ (t : Bool). so && t) (sym (same_cons a b i h (omega arith))) ∙ inv
-
-  pub secret_ended : length a ≤ i → so ≡ x
-  secret_ended h = sym (and-true so) ∙ ap (λ (t : Bool). so && t) (same_ended a b i _ refl l h) ∙ inv
+pub same_at_places : (a b : List ℕ) (x : Bool) → length a ≡ length b → x ≡ fold (λ s (p : ℕ × ℕ). s && eqb p.0 p.1) true (zip a b) → x ≡ same_bytes a b
+same_at_places a b x l e = e ∙ same_folded a b true l
 
 -- one byte more behind strings of the same length
 pub same_behind : (p q : List ℕ) (x y : ℕ) → length p ≡ length q → same_bytes (p ++ (x ∷ [])) (q ++ (y ∷ [])) ≡ (same_bytes p q && eqb x y)
@@ -118,6 +94,14 @@ module _ (f : ℕ → Bool) (s : List ℕ) (i x : ℕ) (inv : i + run f (drop i 
 
     pub run_turn : f (get_or s i 0) ≡ true → i + 1 + run f (drop (i + 1) s) ≡ x
     run_turn o = omega (arith, run_more f s i h o)
+
+-- bytes tested one by one, where none ends the loop
+folded : (f : ℕ → Bool) (s : List ℕ) (so : Bool) → fold (λ good b. good && f b) so s ≡ (so && all_of f s)
+folded f [] so = sym (and-true so)
+folded f (b ∷ bs) so = folded f bs (so && f b) ∙ and_assoc so (f b) (all_of f bs)
+
+pub all_folded : (f : ℕ → Bool) (s : List ℕ) → fold (λ good b. good && f b) true s ≡ all_of f s
+all_folded f s = folded f s true
 
 -- a list whose every byte passes is all run, and the run goes on in what follows it
 pub all_run : (f : ℕ → Bool) (p q : List ℕ) → all_of f p ≡ true → run f (p ++ q) ≡ length p + run f q
@@ -170,14 +154,3 @@ module _ (f : ℕ → Bool) (s : List ℕ) (i : ℕ) (x : Bool) (inv : all_of f 
 
     pub all_turn : not t ≡ false → all_of f (drop (i + 1) s) ≡ x
     all_turn o = rw (← e, not-false t o) at (sym all_cons ∙ inv)
-
--- front
-module _ (s : List ℕ) (n : ℕ) where
-  pub whole : length s ≤ n → s ≡ take n s
-  whole h = sym (take_all n s h)
-
-  pub part : take (n - 0) s ≡ take n s
-  part = ap (λ (k : ℕ). take k s) (sub-zero n)
-
-  pub part_short : n < length s → length (take (n - 0) s) ≤ n
-  part_short h = omega (arith, ap length part, length-take-le n s (omega arith))

@@ -1,7 +1,7 @@
 -- Many bits at once, by shifts, against the same bits one by one. Both are linear, so antt computes them at the powers of two.
 use mathlib.Core.Path.{◌≡◌, sym, ap, ap₂, ◌∙◌}
-use Prim.Native.Nat.{ℕ, ◌*◌, ◌/◌, ◌%◌, ◌<◌, ◌^◌}
-use native.Mathlib.Nat.{mod-eq_of_lt}
+use Prim.Native.Nat.{ℕ, ◌*◌, ◌/◌, ◌%◌, ◌<◌, ◌≤◌, ◌^◌}
+use native.Mathlib.Nat.{mod-eq_of_lt, mul-le-mul_left, le_of_lt}
 use native.Mathlib.Omega.{arith}
 use lib.Bits.{bit_xor, xor_lt}
 use lib.Count.{ones}
@@ -24,6 +24,10 @@ factor_linear = times_linear 0xC001 (parity_of 64) (parity_linear 64) (parity_bi
 pub ones_factor : (n : ℕ) → n < 2 ^ 64 → ones n % 2 * 0xC001 ≡ factor n
 unfolding factor
 ones_factor n h = ap (λ (k : ℕ). k * 0xC001) (ones_parity 64 n h)
+
+-- what is shifted up fits
+pub up_fits : (x s u : ℕ) → x < s → s * u ≡ 16384 → x * (u * 2) ≤ 32768
+up_fits x s u h e = omega (arith, mul-le-mul_left u (le_of_lt h))
 
 -- eight and fourteen bits, but for the second factor
 unfoldable pub eight_bits : ℕ → ℕ

@@ -1,17 +1,17 @@
 -- The steps over the bytes: the check value from the value so far of the bytes that are left is the whole.
 use mathlib.Core.Path.{◌≡◌, refl, sym, ap, ap₂, ◌∙◌}
 use mathlib.Core.Logic.{◌⊎◌, inl, inr, ⊎_elim}
-use mathlib.Core.List.{List}
+use mathlib.Core.List.{List, [], ◌∷◌}
 use Prim.Native.Nat.{ℕ, zero, suc, ◌+◌, ◌-◌, ◌*◌, ◌/◌, ◌%◌, ◌<◌, ◌≤◌, ◌^◌}
 use native.Mathlib.Nat.{mod-lt, div-eq_of_lt, mod-eq_of_lt}
-use native.Mathlib.Numerals.{add-one}
 use native.Mathlib.Omega.{arith}
 use lib.Dec.{lit<}
 use lib.Pow.{split}
 use lib.Bits.{bit_xor, xor_zero_r, xor_self, xor_comm, xor_lt, xor_shifted}
 use lib.Count.{ones}
-use lib.ListN.{length, get_or, drop, replicate, take, length-drop, drop_of_length-le}
-use lib.Seq.{drop-cons, drop-drop}
+use lib.ListN.{length, drop, replicate, take, length-drop}
+use lib.Seq.{drop-drop}
+use Rattle.std.specs.List.{fold}
 use Rattle.byte_strings.proofs.StringLaws.{rest}
 use Rattle.check_crc.specs.Crc.{crc_bit, crc_eight, crc_byte, crc_of}
 use Rattle.check_crc.specs.Words.{little_endian}
@@ -20,15 +20,12 @@ use Rattle.check_crc.proofs.Linear.{right_linear, low_linear}
 use Rattle.check_crc.proofs.Parity.{parity_of, parity_bit}
 use Rattle.check_crc.proofs.Eights.{eights, eights_add, eights_high, eights_linear}
 use Rattle.check_crc.proofs.Folds.{factor, factor_linear, ones_factor, seven_law}
-use Rattle.check_crc.proofs.Words.{Bytes, bytes_drop, word_small, word_low, crc_word, crc_xor, crc_zeros}
+use Rattle.check_crc.proofs.Words.{Bytes, bytes_drop, word_small, word_low, word_front, crc_word, crc_xor, crc_zeros}
 
 -- byte by byte
-pub byte_turn : (whole c x : ℕ) (s : List ℕ) (i : ℕ) → i < length s → crc_of c (drop i s) ≡ whole → x ≡ crc_byte c (get_or s i 0)
-    → crc_of x (drop (i + 1) s) ≡ whole
-byte_turn whole c x s i h p e = ap (λ (k : ℕ). crc_of k (drop (i + 1) s)) e ∙ sym (rw (drop-cons s i 0 h, ← add-one i)) ∙ p
-
-pub bytes_end : (whole c : ℕ) (s : List ℕ) (i : ℕ) → length s ≤ i → crc_of c (drop i s) ≡ whole → c ≡ whole
-bytes_end whole c s i h p = sym (ap (crc_of c) (drop_of_length-le s h)) ∙ p
+pub folded : (c : ℕ) (s : List ℕ) → fold (λ x b. crc_byte x b) c s ≡ crc_of c s
+folded c [] = refl
+folded c (b ∷ bs) = folded (crc_byte c b) bs
 
 -- no bit changes the second factor
 factor_stays : (k b : ℕ) → b < 2 → eights k (b * 0xC001) ≡ b * 0xC001
@@ -90,53 +87,58 @@ seven_step v w s g h e =
 
 -- the value so far: it fits, and with the second factor, where that is lacking, the check value from it of the bytes that are left is the whole
 pub record SoFar (whole v lacks : ℕ) (left : List ℕ) : Type 0 where
+  pub bytes : Bytes left
   pub fits : v < 2 ^ 64
   pub lacks_fits : lacks < 2 ^ 64
   pub goes : bit_xor (crc_of v left) (factor lacks) ≡ whole
 
-pub from_start : (c : ℕ) (s : List ℕ) → c < 65536 → SoFar (crc_of c s) c 0 s
+pub from_start : (c v : ℕ) (s : List ℕ) → Bytes s → c < 65536 → v ≡ c → SoFar (crc_of c s) v 0 s
 unfolding factor parity_of
-from_start c s h = record { fits = omega arith; lacks_fits = lit< tt; goes = xor_zero_r (crc_of c s) }
+from_start c v s g h e = record { bytes = g; fits = omega arith; lacks_fits = lit< tt; goes = rw e (xor_zero_r (crc_of c s)) }
 
-pub from_turn : (whole v lacks w : ℕ) (s : List ℕ) (i : ℕ) → Bytes s → 15 ≤ length s - i → w ≡ little_endian 8 (drop i s)
-    → SoFar whole v lacks (drop i s)
-    → let low = bit_xor v w % 72057594037927936 in
-    SoFar whole (bit_xor (bit_xor low (low * 16)) (v / 72057594037927936)) (bit_xor lacks low) (drop (i + 7) s)
-from_turn whole v lacks w s i g h e p =
-    let low : ℕ = bit_xor v w % 72057594037927936 in
-    let high : ℕ = v / 72057594037927936 in
-    let l : low < 2 ^ 56 = mod-lt (bit_xor v w) (lit< tt) in
-    let x : ℕ = crc_of (bit_xor (bit_xor low (low * 16)) high) (drop (i + 7) s) in
-    let step : crc_of v (drop i s) ≡ bit_xor x (factor low) =
-    rw (← drop-drop 7 i s) (seven_step v w (drop i s) (bytes_drop i s g) (rw (length-drop i s) h) e) in
-    record {
-      fits =
-          xor_lt 64 (bit_xor low (low * 16)) high (xor_lt 64 low (low * 16) (omega arith) (omega arith)) (omega (arith, p.fits));
-      lacks_fits = xor_lt 64 lacks low p.lacks_fits (omega arith);
-      goes =
-          ap (bit_xor x) (factor_linear lacks low ∙ xor_comm (factor lacks) (factor low)) ∙ sym (xor_assoc x (factor low) (factor lacks))
-          ∙ ap (λ (y : ℕ). bit_xor y (factor lacks)) (sym step) ∙ p.goes;
-    }
+module _ (whole v lacks w : ℕ) (s e : List ℕ) (i : ℕ) (p : SoFar whole v lacks (drop i s)) (q : w ≡ little_endian 8 e) (n : e ≡ take 8 (take (length s - i) (drop i s))) where
+  taken : w ≡ little_endian 8 (drop i s)
+  taken = q ∙ ap (little_endian 8) (n ∙ ap (take 8) (rest s i)) ∙ word_front (drop i s)
 
--- eight bytes, which leave sixteen bits and no lack
-pub from_eight : (whole v lacks w c : ℕ) (s : List ℕ) (i : ℕ) → Bytes s → 8 ≤ length s - i → w ≡ little_endian 8 (drop i s)
-    → SoFar whole v lacks (drop i s) → c ≡ bit_xor (crc_of (bit_xor v w) (replicate 8 0)) (ones lacks % 2 * 0xC001) → c < 65536
-    → SoFar whole c 0 (drop (i + 8) s)
-unfolding factor parity_of
-from_eight whole v lacks w c s i g h e p q l =
-    let t : List ℕ = drop (i + 8) s in
-    let f : ℕ = ones lacks % 2 * 0xC001 in
-    let taken : crc_of v (drop i s) ≡ crc_of (eights 8 (bit_xor v w)) t =
-    rw (e, ← drop-drop 8 i s) (crc_word 8 v (drop i s) (bytes_drop i s g) (rw (length-drop i s) (omega arith))) in
-    record {
-      fits = omega arith;
-      lacks_fits = lit< tt;
-      goes =
-          xor_zero_r (crc_of c t) ∙ ap (λ (x : ℕ). crc_of x t) (q ∙ ap (λ (y : ℕ). bit_xor y f) (crc_zeros (bit_xor v w)))
-          ∙ crc_xor (eights 8 (bit_xor v w)) f t
-          ∙ ap₂ bit_xor (sym taken) (factor_stays (length t) (ones lacks % 2) (mod-lt (ones lacks) (lit< tt)) ∙ ones_factor lacks p.lacks_fits)
-          ∙ p.goes;
-    }
+  pub from_turn : 15 ≤ length s - i
+      → let low = bit_xor v w % 72057594037927936 in
+      SoFar whole (bit_xor (bit_xor low (low * 16)) (v / 72057594037927936)) (bit_xor lacks low) (drop (i + 7) s)
+  from_turn h =
+      let low : ℕ = bit_xor v w % 72057594037927936 in
+      let high : ℕ = v / 72057594037927936 in
+      let l : low < 2 ^ 56 = mod-lt (bit_xor v w) (lit< tt) in
+      let x : ℕ = crc_of (bit_xor (bit_xor low (low * 16)) high) (drop (i + 7) s) in
+      let step : crc_of v (drop i s) ≡ bit_xor x (factor low) =
+      rw (← drop-drop 7 i s) (seven_step v w (drop i s) p.bytes (rw (length-drop i s) h) taken) in
+      record {
+        bytes = rw (← drop-drop 7 i s) (bytes_drop 7 (drop i s) p.bytes);
+        fits =
+            xor_lt 64 (bit_xor low (low * 16)) high (xor_lt 64 low (low * 16) (omega arith) (omega arith)) (omega (arith, p.fits));
+        lacks_fits = xor_lt 64 lacks low p.lacks_fits (omega arith);
+        goes =
+            ap (bit_xor x) (factor_linear lacks low ∙ xor_comm (factor lacks) (factor low)) ∙ sym (xor_assoc x (factor low) (factor lacks))
+            ∙ ap (λ (y : ℕ). bit_xor y (factor lacks)) (sym step) ∙ p.goes;
+      }
+
+  -- eight bytes, which leave sixteen bits and no lack
+  pub from_eight : (c : ℕ) → 8 ≤ length s - i → c ≡ bit_xor (crc_of (bit_xor v w) (replicate 8 0)) (ones lacks % 2 * 0xC001) → c < 65536
+      → SoFar whole c 0 (drop (i + 8) s)
+  unfolding factor parity_of
+  from_eight c h r l =
+      let t : List ℕ = drop (i + 8) s in
+      let o : ℕ = ones lacks % 2 * 0xC001 in
+      let before : crc_of v (drop i s) ≡ crc_of (eights 8 (bit_xor v w)) t =
+      rw (taken, ← drop-drop 8 i s) (crc_word 8 v (drop i s) p.bytes (rw (length-drop i s) (omega arith))) in
+      record {
+        bytes = rw (← drop-drop 8 i s) (bytes_drop 8 (drop i s) p.bytes);
+        fits = omega arith;
+        lacks_fits = lit< tt;
+        goes =
+            xor_zero_r (crc_of c t) ∙ ap (λ (x : ℕ). crc_of x t) (r ∙ ap (λ (y : ℕ). bit_xor y o) (crc_zeros (bit_xor v w)))
+            ∙ crc_xor (eights 8 (bit_xor v w)) o t
+            ∙ ap₂ bit_xor (sym before) (factor_stays (length t) (ones lacks % 2) (mod-lt (ones lacks) (lit< tt)) ∙ ones_factor lacks p.lacks_fits)
+            ∙ p.goes;
+      }
 
 -- before a turn there are eight bytes more, or else sixteen bits alone and nothing lacking
 abbrev pub Ready : ℕ → ℕ → ℕ → Type 0

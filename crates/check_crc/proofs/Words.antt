@@ -3,13 +3,13 @@ use mathlib.Core.Path.{◌≡◌, refl, sym, ap, ◌∙◌}
 use mathlib.Core.List.{List, [], ◌∷◌}
 use Prim.Native.Nat.{ℕ, zero, suc, ◌+◌, ◌*◌, ◌%◌, ◌<◌, ◌≤◌, ◌^◌}
 use native.Mathlib.Nat.{zero-add, add-zero, suc-add, mul-one, mul_assoc, pow-suc, one-le-pow, zero-lt-suc, le_of_suc-le-suc, not-suc-le-zero}
-use native.Mathlib.Numerals.{add-one}
 use native.Mathlib.Omega.{arith}
 use lib.Dec.{lit<}
 use lib.Arith.{digits_lt, digits_mod}
 use lib.Bits.{bit_xor, xor_zero_r, xor_comm, xor_shifted}
-use lib.ListN.{length, get_or, drop, replicate, length-drop}
-use lib.Seq.{drop-cons, drop-drop, get_or-drop}
+use lib.ListN.{length, get_or, take, drop, replicate}
+use lib.Seq.{get_or-drop}
+use Rattle.std.specs.Int.{w64, from_le_bytes}
 use Rattle.check_crc.specs.Crc.{crc_byte, crc_eight, crc_of}
 use Rattle.check_crc.specs.Words.{little_endian}
 use Rattle.check_crc.proofs.Xor.{xor_assoc}
@@ -67,23 +67,23 @@ pub crc_zeros : (c : ℕ) → crc_of c (replicate 8 0) ≡ eights 8 c
 unfolding eights crc_byte
 crc_zeros c = simp xor_zero_r
 
--- four bytes as the code adds them up
-pub half_sum : (s : List ℕ) (i a b c d : ℕ) → i + 4 ≤ length s → (a ≡ get_or s i 0) × (a < 256) → (b ≡ get_or s (i + 1) 0) × (b < 256)
-    → (c ≡ get_or s (i + 2) 0) × (c < 256) → (d ≡ get_or s (i + 3) 0) × (d < 256)
-    → a + b * 256 + c * 65536 + d * 16777216 ≡ little_endian 4 (drop i s)
-half_sum s i a b c d h p q r t =
-    let next : (j m : ℕ) → m ≡ j + 1 → j < length s → drop j s ≡ get_or s j 0 ∷ drop m s = λ j m e l. rw (e, add-one) (drop-cons s j 0 l) in
-    rw (
-      next i (i + 1) refl (omega arith),
-      next (i + 1) (i + 2) (omega arith) (omega arith),
-      next (i + 2) (i + 3) (omega arith) (omega arith),
-      next (i + 3) (i + 4) (omega arith) (omega arith),
-    ) (omega (arith, p.0, q.0, r.0, t.0))
+-- eight bytes as std reads them
+pub word_value : (s : List ℕ) → length s ≡ 8 → from_le_bytes w64 s ≡ little_endian 8 s
+word_value [] e = absurd (omega arith)
+word_value (a ∷ []) e = absurd (omega arith)
+word_value (a ∷ b ∷ []) e = absurd (omega arith)
+word_value (a ∷ b ∷ c ∷ []) e = absurd (omega arith)
+word_value (a ∷ b ∷ c ∷ d ∷ []) e = absurd (omega arith)
+word_value (a ∷ b ∷ c ∷ d ∷ f ∷ []) e = absurd (omega arith)
+word_value (a ∷ b ∷ c ∷ d ∷ f ∷ g ∷ []) e = absurd (omega arith)
+word_value (a ∷ b ∷ c ∷ d ∷ f ∷ g ∷ h ∷ []) e = absurd (omega arith)
+word_value (a ∷ b ∷ c ∷ d ∷ f ∷ g ∷ h ∷ i ∷ s) e = omega arith
 
--- and eight
-pub word_sum : (s : List ℕ) (i x y : ℕ) → i + 8 ≤ length s → x ≡ little_endian 4 (drop i s) → y ≡ little_endian 4 (drop (i + 4) s)
-    → x + y * 4294967296 ≡ little_endian 8 (drop i s)
-word_sum s i x y h p q =
-    let parts = word_parts 4 4 (drop i s) (rw (length-drop i s) (omega arith)) in
-    let next : little_endian 4 (drop 4 (drop i s)) ≡ y = ap (little_endian 4) (drop-drop 4 i s) ∙ sym q in
-    omega (arith, p, next, parts)
+-- of the first eight bytes
+pub word_front : (s : List ℕ) → little_endian 8 (take 8 s) ≡ little_endian 8 s
+word_front = front 8
+  where
+    front : (k : ℕ) (l : List ℕ) → little_endian k (take k l) ≡ little_endian k l
+    front zero l = refl
+    front (suc k) [] = refl
+    front (suc k) (b ∷ bs) = rw (front k bs)

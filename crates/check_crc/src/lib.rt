@@ -13,58 +13,51 @@ ghost use Rattle.std.specs.Int.Count.{ones};
 ghost use Rattle.check_crc.specs.Crc.{crc_byte, crc_of, arc_of, modbus_of};
 ghost use Rattle.check_crc.specs.Words.{little_endian};
 
-fn wide(b: u8) -> u64
-    ensures { (result ≡ b) × (result < 256) }
-{
-    b as u64
-}
-
-// Four bytes as a number, the first lowest.
-fn half(s: &[u8], at: usize) -> u64
-    requires { at + 4 ≤ length s.now }
-    ensures value { result ≡ little_endian 4 (drop at s.now) }
-    ensures small { result < 4294967296 }
-{
-    wide(s[at]) + wide(s[at + 1]) * 256 + wide(s[at + 2]) * 65536 + wide(s[at + 3]) * 16777216
-}
-
 // Eight bytes as a number, the first lowest.
-fn word(s: &[u8], at: usize) -> u64
-    requires { at + 8 ≤ length s.now }
-    ensures { result ≡ little_endian 8 (drop at s.now) }
+#[tactic(auto, using(crate::proofs::Words::word_value))]
+fn word(eight: &[u8; 8]) -> u64
+    ensures { result ≡ little_endian 8 eight.now }
 {
-    half(s, at) + half(s, at + 4) * 4294967296
+    u64::from_le_bytes(*eight)
 }
 
-// What v becomes by eight bits, but for the second factor.
+// What v becomes by some bits, but for the second factor: SPAN is two to their number, and UP is 2^14 over that.
+#[tactic(auto, using(crate::proofs::Folds::up_fits))]
+fn by_bits<const SPAN: u64, const UP: u64>(v: u64) -> u64
+    requires { SPAN * UP ≡ 16384 }
+    ensures { result ≡ bit_xor (bit_xor (v / SPAN) (v % SPAN * UP)) (v % SPAN * (UP * 2)) }
+{
+    let low = v % SPAN;
+    (v / SPAN) ^ (low * UP) ^ (low * (UP * 2))
+}
+
+// By eight bits, and by fourteen.
 fn eight_bits(v: u64) -> u64
     ensures { result ≡ bit_xor (bit_xor (v / 256) (v % 256 * 64)) (v % 256 * 128) }
 {
-    let low = v % 256;
-    (v / 256) ^ (low * 64) ^ (low * 128)
+    by_bits::<256, 64>(v)
 }
 
-// What v becomes by fourteen bits, but for the second factor.
 fn fourteen_bits(v: u64) -> u64
     ensures { result ≡ bit_xor (bit_xor (v / 16384) (v % 16384)) (v % 16384 * 2) }
 {
-    let low = v % 16384;
-    (v / 16384) ^ low ^ (low * 2)
+    by_bits::<16384, 1>(v)
 }
 
 // The value v, with the second factor where the count of ones among the bits is odd.
 fn with_factor(v: u64, bits: u64) -> u16
     ensures { result ≡ bit_xor v (ones bits % 2 * 0xC001) % 65536 }
 {
-    let odd = (u64::count_ones(bits) % 2) as u64;
+    let odd = u64::from(bits.count_ones() % 2);
     ((v ^ (odd * 0xC001)) % 65536) as u16
 }
 
 // The check value with one byte more.
+#[tactic(auto, using(crate::proofs::Folds::byte_done), unfolding(crate::proofs::Folds::eight_bits))]
 fn crc_byte(c: u16, b: u8) -> u16
     ensures { result ≡ crc_byte c b }
 {
-    let v = (c as u64) ^ wide(b);
+    let v = u64::from(c) ^ u64::from(b);
     let r = eight_bits(v);
     with_factor(r, v ^ r)
 }
@@ -73,13 +66,7 @@ fn crc_byte(c: u16, b: u8) -> u16
 fn crc_bytes(start: u16, s: &[u8]) -> u16
     ensures { result ≡ crc_of start s.now }
 {
-    let mut c = start;
-    let mut i = 0;
-    while i < s.len() {
-        c = crc_byte(c, s[i]);
-        i += 1;
-    }
-    c
+    s.iter().fold(start, |c, b| crc_byte(c, *b))
 }
 
 // What v becomes by sixty-four bits, with the second factor where `lacks` has an odd count of ones.
@@ -92,21 +79,22 @@ fn crc_word(v: u64, lacks: u64) -> u16
 
 // The check value of s, from a start value: seven bytes, a number below 2^56, at a step while at least eight are left
 // after them, then eight, which leave sixteen bits, then byte by byte. The second factor is lacking where `lacks` has
-// an odd count of ones. Both steps are turns of one loop: steps of one size alone are counted by a division.
+// an odd count of ones. Both steps are turns of one loop over a place: steps of one size alone, or over what is left,
+// are counted by a division.
 fn crc_from(start: u16, s: &[u8]) -> u16
     ensures { result ≡ crc_of start s.now }
 {
-    let mut v = start as u64;
+    let mut v = u64::from(start);
     let mut lacks = 0;
     let mut i = 0;
-    while 8 <= s.len() - i {
+    while let Some(eight) = s[i..].first_chunk::<8>() {
         if 15 <= s.len() - i {
-            let low = (v ^ word(s, i)) % 0x100000000000000;
+            let low = (v ^ word(eight)) % 0x100000000000000;
             v = (low ^ (low * 16)) ^ (v / 0x100000000000000);
             lacks = lacks ^ low;
             i += 7;
         } else {
-            v = crc_word(v ^ word(s, i), lacks) as u64;
+            v = u64::from(crc_word(v ^ word(eight), lacks));
             lacks = 0;
             i += 8;
         }

@@ -5,8 +5,6 @@ ghost use Rattle.std.specs.Prelude.{◌≡◌, ◌+◌, ◌-◌, ◌≤◌, leng
 ghost use Rattle.byte_strings.specs.Wrote.{Writes};
 ghost use Rattle.check_sums.specs.Checksum.{sum_of, sum_digits, ends_in_sum};
 
-use check_digits::Hex4;
-
 // Of which kind the CRC is: of a message, or of a record.
 #[derive(Clone, Copy)]
 pub enum Kind {
@@ -24,22 +22,18 @@ fn sum_of(kind: Kind, s: &[u8]) -> u16
 }
 
 // Whether the bytes end in the four digits of what stands before them.
+#[tactic(auto, using(crate::proofs::SumLaws::compared), unfolding(crate::specs::Checksum::ends_in_sum))]
 pub fn ends_in_sum(kind: Kind, bytes: &[u8]) -> bool
     ensures { result ≡ ends_in_sum kind bytes.now }
 {
-    if bytes.len() < 4 {
+    let Some((before, digits)) = bytes.split_last_chunk::<4>() else {
         return false;
-    }
-    let n = bytes.len() - 4;
-    let c = sum_of(kind, &bytes[..n]);
-    let read = check_digits::read_hex4(bytes, n);
-    match read {
-        Hex4::Number(v) => v == c,
-        Hex4::Bad => false,
-    }
+    };
+    check_digits::read_hex4(digits, 0) == Some(sum_of(kind, before))
 }
 
 // Writes the four digits of the bytes from a place up to `to` behind them, and answers the place after the digits.
+#[tactic(auto, unfolding(crate::specs::Checksum::sum_digits))]
 pub fn put_sum(kind: Kind, dst: &mut [u8], from: usize, to: usize) -> usize
     requires { (from ≤ to) × (to + 4 ≤ length dst.old) }
     ensures writes { Writes dst to (sum_digits kind (take (to - from) (drop from dst.old))) result }

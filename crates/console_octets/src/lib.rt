@@ -20,20 +20,21 @@ pub fn put_digits(dst: &mut [u8], at: usize, bytes: &[u8]) -> usize
     ensures writes { Writes dst at (digits_of bytes.now) result }
     ensures short { result ≡ at + (length bytes.now + length bytes.now) }
 {
-    let mut o = at;
-    let mut j = 0;
-    while j < bytes.len() {
-        o = put_octet(dst, o, bytes[j]);
-        j += 1;
+    let mut end = at;
+    for b in bytes {
+        end = put_octet(dst, end, *b);
     }
-    o
+    end
 }
 
 // The octet of two digits.
-fn octet_of(a: u8, b: u8) -> u8
-    ensures { result ≡ octet_of a b }
+#[tactic(auto, unfolding(crate::specs::Octets::octet_of))]
+fn octet_of(high: u8, low: u8) -> u8
+    ensures { result ≡ octet_of high low }
 {
-    ((check_digits::hex_value(a) * 16 + check_digits::hex_value(b)) % 256) as u8
+    let tens = check_digits::hex_value(high).unwrap_or(16);
+    let ones = check_digits::hex_value(low).unwrap_or(16);
+    ((tens * 16 + ones) % 256) as u8
 }
 
 // Writes the octets of the digits from the start on, and answers how many there are.
@@ -43,11 +44,11 @@ pub fn put_octets(dst: &mut [u8], digits: &[u8]) -> usize
     ensures fits { result ≤ length dst.old }
 {
     let mut n = 0;
-    let mut i = 0;
-    while i + 1 < digits.len() {
-        dst[n] = octet_of(digits[i], digits[i + 1]);
+    let mut left = digits;
+    while let [high, low, rest @ ..] = left {
+        dst[n] = octet_of(*high, *low);
         n += 1;
-        i += 2;
+        left = rest;
     }
     n
 }

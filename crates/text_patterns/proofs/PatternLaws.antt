@@ -2,14 +2,14 @@
 use mathlib.Core.Path.{◌≡◌, refl, sym, ap, ◌∙◌}
 use mathlib.Core.Bool.{Bool, true, false, and-true, and_assoc, ◌&&◌, ◌||◌}
 use mathlib.Core.List.{List, [], ◌∷◌, ◌++◌}
-use Prim.Native.Nat.{ℕ, zero, suc, ◌+◌, ◌≤◌, ◌<◌}
-use native.Mathlib.Numerals.{add-one}
+use Prim.Native.Nat.{ℕ, zero, suc, ◌+◌, ◌-◌, ◌≤◌}
 use native.Mathlib.Omega.{arith}
 use lib.Dec.{eqb, leb}
-use lib.ListN.{length, get_or, take, drop, replicate, drop_of_length-le}
-use lib.Seq.{drop-cons}
+use lib.ListN.{length-drop, length, take, drop, replicate}
 use borrow.Author.Tests.{ne_eqb, le-leb, eqb-true}
+use Rattle.std.specs.List.{fold, zip}
 use Rattle.byte_strings.specs.Strings.{all_of}
+use Rattle.byte_strings.proofs.StringLaws.{rest}
 use Rattle.byte_strings.proofs.Flags.{nope, and_second}
 use Rattle.text_classes.specs.Classes.{within, is_of}
 use Rattle.text_classes.specs.declared.Class.TheVariants.{Digit, Hexadecimal}
@@ -69,18 +69,11 @@ fits_append [] q s = refl
 fits_append (x ∷ p) q [] = refl
 fits_append (x ∷ p) q (b ∷ s) = rw (fits_append p q s) (sym (and_assoc (fits_byte x b) (fits p s) (fits q (drop (length p) s))))
 
--- the function fits: what was compared so far fits and what is left does, where the whole does, x
-pub fits_whole : (p s : List ℕ) (at : ℕ) → (true && fits (drop 0 p) (drop (at + 0) s)) ≡ fits p (drop at s)
-fits_whole p s at = let e : at + 0 ≡ at = omega arith in rw e refl
+-- the function fits: each byte of the pattern beside the one at its place, where there are enough
+folded : (p s : List ℕ) (so : Bool) → length p ≤ length s → fold (λ good (q : ℕ × ℕ). good && fits_byte q.0 q.1) so (zip p s) ≡ (so && fits p s)
+folded [] s so l = sym (and-true so)
+folded (x ∷ p) [] so l = absurd (omega arith)
+folded (x ∷ p) (b ∷ s) so l = folded p s (so && fits_byte x b) (omega arith) ∙ and_assoc so (fits_byte x b) (fits p s)
 
-module _ (p s : List ℕ) (at i : ℕ) (good x : Bool) (inv : (good && fits (drop i p) (drop (at + i) s)) ≡ x) where
-  pub fits_turn : at + length p ≤ length s → i < length p → (t : Bool) → t ≡ fits_byte (get_or p i 0) (get_or s (at + i) 0) → ((good && t) && fits (drop (i + 1) p) (drop (at + (i + 1)) s)) ≡ x
-  fits_turn l h t e =
-      let j : at + (i + 1) ≡ suc (at + i) = omega arith in
-      let c : fits (drop i p) (drop (at + i) s) ≡ (t && fits (drop (i + 1) p) (drop (at + (i + 1)) s)) = rw (drop-cons p i 0 h, drop-cons s (at + i) 0 (omega arith), j, add-one i, e) refl in
-      and_assoc good t _ ∙ ap (λ (b : Bool). good && b) (sym c) ∙ inv
-
-  pub fits_ended : length p ≤ i → good ≡ x
-  fits_ended h =
-      let d : drop i p ≡ [] = drop_of_length-le p {i = i} h in
-      sym (and-true good) ∙ ap (λ (l : List ℕ). good && fits l (drop (at + i) s)) (sym d) ∙ inv
+pub all_fit : (p s : List ℕ) (at : ℕ) (x : Bool) → at + length p ≤ length s → x ≡ fold (λ good (q : ℕ × ℕ). good && fits_byte q.0 q.1) true (zip p (take (length s - at) (drop at s))) → x ≡ fits p (drop at s)
+all_fit p s at x l e = rw rest at e ∙ folded p (drop at s) true (omega (arith, length-drop at s))

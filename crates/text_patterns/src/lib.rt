@@ -1,10 +1,11 @@
 // Bytes that fit a pattern, byte by byte.
 #![tactic(auto)]
 
-ghost use Rattle.std.specs.Prelude.{◌≡◌, ◌+◌, ◌≤◌, length, drop};
+ghost use Rattle.std.specs.Prelude.{◌≡◌, ◌+◌, ◌≤◌, ◌&&◌, true, length, drop, fold, zip};
 ghost use Rattle.text_patterns.specs.Patterns.{fits_byte, fits};
 
 // Whether a byte fits one of a pattern. Nothing here branches, so that many bytes are compared at a time.
+#[tactic(auto, unfolding(crate::specs::Patterns::fits_byte))]
 fn fits_byte(p: u8, b: u8) -> bool
     ensures { result ≡ fits_byte p b }
 {
@@ -13,17 +14,21 @@ fn fits_byte(p: u8, b: u8) -> bool
     (p == b) | (smaller | ((p == b'F') & hexadecimal))
 }
 
-// Whether what stands in the bytes from a place on fits a pattern. No byte ends the loop, so that many are compared
-// at a time.
+// Whether each byte fits the one at its place in the pattern, as far as both go. No byte ends the loop, so that many
+// are compared at a time.
+fn fit(pattern: &[u8], bytes: &[u8]) -> bool
+    ensures { result ≡ fold (λ good p. good && fits_byte p.0 p.1) true (zip pattern.now bytes.now) }
+{
+    pattern
+        .iter()
+        .zip(bytes)
+        .fold(true, |good, (p, b)| good & fits_byte(*p, *b))
+}
+
+// Whether what stands in the bytes from a place on fits a pattern.
 pub fn fits(bytes: &[u8], at: usize, pattern: &[u8]) -> bool
     requires { at + length pattern.now ≤ length bytes.now }
     ensures { result ≡ fits pattern.now (drop at bytes.now) }
 {
-    let mut good = true;
-    let mut i = 0;
-    while i < pattern.len() {
-        good = good & fits_byte(pattern[i], bytes[at + i]);
-        i += 1;
-    }
-    good
+    fit(pattern, &bytes[at..])
 }
