@@ -83,7 +83,7 @@ fn show_fields(rt: &impl Print, p: &[u8]) -> io::Result<()> {
 }
 
 fn is_timestamp(s: &[u8]) -> bool {
-    text_timestamps::is_moment(text_timestamps::read_timestamp(s))
+    text_timestamps::read_timestamp(s).is_some()
 }
 
 // Whether the first of two timestamps, split by a space, is the later one.

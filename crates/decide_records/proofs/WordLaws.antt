@@ -19,7 +19,7 @@ use Rattle.record_types.specs.declared.LoadResponse.{LoadResponse}
 use Rattle.record_types.proofs.PartLaws.{found_key, found_response}
 use Rattle.record_parser.proofs.FieldLaws.{field_fits, field_is}
 use Rattle.text_timestamps.specs.Timestamps.{timestamp_of, is_later}
-use Rattle.text_timestamps.specs.declared.Moment.{Moment}
+use Rattle.std.specs.Prelude.{Option}
 use Rattle.row_types.specs.Lists.{first_from}
 use Rattle.row_types.specs.Slots.{has_state, is_named}
 use Rattle.row_types.specs.Places.{place_of}
@@ -78,7 +78,7 @@ pub same_of : (u v w : List ℕ) (b : Bool) → u ≡ v → b ≡ same_bytes u w
 same_of u v w b e p = p ∙ ap (λ (z : List ℕ). same_bytes z w) e
 
 -- is_not_expired
-pub later_of : (u v w : List ℕ) (a b : Moment) (r : Bool) → u ≡ v → a ≡ timestamp_of u → b ≡ timestamp_of w → r ≡ is_later a b → r ≡ is_later (timestamp_of v) (timestamp_of w)
+pub later_of : (u v w : List ℕ) (a b : Option ℕ) (r : Bool) → u ≡ v → a ≡ timestamp_of u → b ≡ timestamp_of w → r ≡ is_later a b → r ≡ is_later (timestamp_of v) (timestamp_of w)
 later_of u v w a b r e p q o = rw (← e, ← p, ← q) o
 
 -- known_place

@@ -10,6 +10,7 @@ use lib.Seq.{drop-cons}
 use native.Mathlib.Numerals.{add-one}
 use borrow.Author.Tests.{ne_eqb, not-true, not-false}
 use denote.Enum.Declared.{tag_of}
+use Rattle.std.specs.Prelude.{Option, is_some}
 use Rattle.byte_strings.specs.Strings.{is_not, run}
 use Rattle.byte_strings.proofs.Below.{below_or}
 use Rattle.byte_pieces.proofs.PieceLaws.{no_piece, next_piece, not_ended, next_ended}
@@ -17,9 +18,8 @@ use Rattle.text_classes.specs.Classes.{are_all}
 use Rattle.text_classes.specs.declared.Class.TheVariants.{Text, Hexadecimal}
 use Rattle.text_decimals.specs.Decimals.{decimal, is_number}
 use Rattle.text_decimals.proofs.NumberLaws.{number_short, number_most}
-use Rattle.text_timestamps.specs.Timestamps.{date_time_of, is_moment, is_date_time}
+use Rattle.text_timestamps.specs.Timestamps.{date_time_of, is_date_time}
 use Rattle.text_timestamps.proofs.MomentLaws.{date_time_moment}
-use Rattle.text_timestamps.specs.declared.Moment as timestamp
 use Rattle.field_values.specs.Values.{Value, number, bad, is_octets, provided, typed, value_of, values_of, first, value_at, after, next_at}
 use Rattle.field_values.specs.Bounds.{field_value, Within, number_of, place_after}
 use Rattle.field_values.specs.declared.Field.{Field}
@@ -37,8 +37,8 @@ module _ (v : List ℕ) where
   even_length e r p = rw (e, p)
 
 -- is_date_time
-pub date_judged : (v : List ℕ) (m : timestamp.Moment) → m ≡ date_time_of v → (r : Bool) → r ≡ is_moment m → r ≡ is_date_time v
-date_judged v m p r q = q ∙ ap is_moment p ∙ date_time_moment v
+pub date_judged : (v : List ℕ) (m : Option ℕ) → m ≡ date_time_of v → (r : Bool) → r ≡ is_some m → r ≡ is_date_time v
+date_judged v m p r q = q ∙ ap is_some p ∙ date_time_moment v
 
 -- number_of
 module _ (v : List ℕ) (t : Bool) (p : t ≡ is_number 10 0 2147483647 v) where

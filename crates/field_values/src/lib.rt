@@ -38,7 +38,7 @@ pub fn is_octets(digits: &[u8]) -> bool
 fn is_date_time(v: &[u8]) -> bool
     ensures { result ≡ is_date_time v.now }
 {
-    text_timestamps::is_moment(text_timestamps::read_date_time(v))
+    text_timestamps::read_date_time(v).is_some()
 }
 
 fn number_of(v: &[u8]) -> Field

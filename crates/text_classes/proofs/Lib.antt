@@ -1,4 +1,3 @@
 pub mod ClassLaws
 pub mod Identify
 pub mod Printable
-pub mod Every

@@ -2,7 +2,7 @@
 #![tactic(auto)]
 
 ghost use Rattle.std.specs.Prelude.{◌≡◌};
-ghost use Rattle.text_classes.specs.Classes.{within, is_alphanumeric, is_mark, is_of, are_all};
+ghost use Rattle.text_classes.specs.Classes.{is_alphanumeric, is_mark, is_of, are_all};
 ghost use Rattle.text_classes.specs.Identifiers.{is_identifier};
 
 // The classes of bytes that the papers name.
@@ -18,31 +18,18 @@ pub enum Class {
     Zero,
 }
 
-fn within(b: u8, low: u8, high: u8) -> bool
-    ensures { result ≡ within b low high }
-{
-    low <= b && b <= high
-}
-
+#[tactic(auto, unfolding(crate::specs::Classes::is_alphanumeric))]
 fn is_alphanumeric(b: u8) -> bool
     ensures { result ≡ is_alphanumeric b }
 {
-    if within(b, b'0', b'9') {
-        return true;
-    }
-    if within(b, b'A', b'Z') {
-        return true;
-    }
-    within(b, b'a', b'z')
+    matches!(b, b'0'..=b'9' | b'A'..=b'Z' | b'a'..=b'z')
 }
 
+#[tactic(auto, unfolding(crate::specs::Classes::is_mark))]
 fn is_mark(b: u8) -> bool
     ensures { result ≡ is_mark b }
 {
-    if b == b'_' {
-        return true;
-    }
-    within(b, b',', b'.')
+    matches!(b, b'_' | b','..=b'.')
 }
 
 // Whether a byte is of a class.
@@ -50,31 +37,13 @@ pub fn is_of(class: Class, byte: u8) -> bool
     ensures { result ≡ is_of class byte }
 {
     match class {
-        Class::Digit => within(byte, b'0', b'9'),
-        Class::Hexadecimal => {
-            if within(byte, b'0', b'9') {
-                return true;
-            }
-            within(byte, b'A', b'F')
-        }
-        Class::Capital => within(byte, b'A', b'Z'),
-        Class::Identifier => {
-            if is_alphanumeric(byte) {
-                return true;
-            }
-            is_mark(byte)
-        }
-        Class::Text => within(byte, 0x20, 0x7D),
-        Class::Printable => within(byte, 0x20, 0x7E),
-        Class::Value => {
-            if byte == b';' {
-                return false;
-            }
-            if byte == b'|' {
-                return false;
-            }
-            within(byte, 0x20, 0x7D)
-        }
+        Class::Digit => matches!(byte, b'0'..=b'9'),
+        Class::Hexadecimal => matches!(byte, b'0'..=b'9' | b'A'..=b'F'),
+        Class::Capital => matches!(byte, b'A'..=b'Z'),
+        Class::Identifier => is_alphanumeric(byte) || is_mark(byte),
+        Class::Text => matches!(byte, 0x20..=0x7D),
+        Class::Printable => matches!(byte, 0x20..=0x7E),
+        Class::Value => byte != b';' && byte != b'|' && matches!(byte, 0x20..=0x7D),
         Class::Zero => byte == 0,
     }
 }
@@ -83,41 +52,24 @@ pub fn is_of(class: Class, byte: u8) -> bool
 pub fn are_all(class: Class, bytes: &[u8]) -> bool
     ensures { result ≡ are_all class bytes.now }
 {
-    let mut i = 0;
-    while i < bytes.len() {
-        if !is_of(class, bytes[i]) {
-            return false;
-        }
-        i += 1;
-    }
-    true
+    bytes.iter().all(|byte| is_of(class, *byte))
 }
 
 // The same for many bytes: no byte ends the loop, so that sixteen are tested at a time.
 pub fn are_all_long(class: Class, bytes: &[u8]) -> bool
     ensures { result ≡ are_all class bytes.now }
 {
-    let mut good = true;
-    let mut j = 0;
-    while j < bytes.len() {
-        good = good & is_of(class, bytes[j]);
-        j += 1;
-    }
-    good
+    bytes
+        .iter()
+        .fold(true, |good, byte| good & is_of(class, *byte))
 }
 
 // Whether a name is an identifier.
+#[tactic(auto, unfolding(crate::specs::Identifiers::is_identifier))]
 pub fn is_identifier(name: &[u8]) -> bool
     ensures { result ≡ is_identifier name.now }
 {
-    if name.len() < 1 {
-        return false;
-    }
-    if 40 < name.len() {
-        return false;
-    }
-    if !is_alphanumeric(name[0]) {
-        return false;
-    }
-    are_all_long(Class::Identifier, name)
+    matches!(name.len(), 1..=40)
+        && is_alphanumeric(name[0])
+        && are_all_long(Class::Identifier, name)
 }

@@ -1,13 +1,12 @@
 -- The decimal digits of a number, and how many there are.
 use mathlib.Core.Path.{◌≡◌, refl}
-use mathlib.Core.List.{List, [], ◌∷◌, ◌++◌}
+use mathlib.Core.List.{[], ◌∷◌, ◌++◌}
 use mathlib.Core.Logic.{⊎_elim}
 use Prim.Native.Nat.{ℕ, zero, suc, ◌+◌, ◌/◌, ◌%◌, ◌^◌, ◌<◌, ◌≤◌}
 use native.Mathlib.Nat.{pow-suc, one-le-pow}
 use native.Mathlib.Omega.{arith}
 use lib.ListN.{length, length-append}
 use borrow.Author.Tests.{lt-ltb, le-ltb}
-use Rattle.byte_strings.specs.Wrote.{Wrote}
 use Rattle.byte_strings.proofs.Below.{below_or}
 use Rattle.text_decimal_writer.specs.Digits.{dec_digits}
 
@@ -63,7 +62,3 @@ many_digits (suc k) (suc m) v l h =
     let o = one-le-pow m 10 (omega arith) in
     let f = many_digits k m (v / 10) (omega arith) (omega arith) in
     rw (digits_more k v (omega arith), length-append) (omega arith)
-
--- put_decimal, put_long
-pub digits_short : {d e : List ℕ} {a r : ℕ} (k v : ℕ) → Wrote d a (dec_digits k v) e r → r ≤ a + k
-digits_short k v w = omega (arith, few_digits k v, w.next)

@@ -1,5 +1,4 @@
 pub mod DigitLaws
 pub mod PowerLaws
-pub mod TakeLaws
 pub mod TurnLaws
 pub mod RoundTrip

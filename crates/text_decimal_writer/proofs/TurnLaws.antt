@@ -7,7 +7,8 @@ use Prim.Native.Nat.{ℕ, zero, suc, ◌+◌, ◌-◌, ◌*◌, ◌/◌, ◌%◌
 use native.Mathlib.Nat.{pow-suc, one-le-pow, mul_assoc, add-mul, zero-mul, lt_of_mul-lt-mul_right}
 use native.Mathlib.Omega.{arith}
 use lib.Dec.{eqb, leb, ltb}
-use lib.ListN.{length, get_or}
+use lib.ListN.{length, get_or, take, drop, length-take, length-drop}
+use Rattle.std.proofs.lemmas.List.{get_or-take, get_or-drop}
 use borrow.Author.Tests.{lt-ltb, ne_eqb, leb-true, leb-false, eqb-true, eqb-false}
 use Rattle.byte_strings.specs.Wrote.{Wrote}
 use Rattle.byte_strings.proofs.Flags.{nope}
@@ -156,37 +157,49 @@ module _ (k v a m : ℕ) (d e : List ℕ) (b rest : ℕ) (t : Told k v a (suc m)
           room = inr (⊎_elim (λ (o : b ≡ a). omega (arith, many, w.next)) (λ (o : b + suc m ≤ a + length (dec_digits k v)). omega (arith, w.next)) t.room);
         }
 
--- put_digits: before its first turn, after its last, and its turn at place i of the table; y is whether v has a digit there
-pub told_start : (k v a : ℕ) (d : List ℕ) → k ≤ 20 → v < 10 ^ k → Told k v a (20 - (20 - k)) d d a v
-told_start k v a d l h = let z : 20 - (20 - k) ≡ k = omega arith in rw z (told_none k v a d h)
+-- put_digits: before its first turn, after its last, and its turn at place j of the last k powers; y is whether v has a digit there
+pub told_start : (k v a : ℕ) (d : List ℕ) → v < 10 ^ k → Told k v a (k - 0) d d a v
+told_start k v a d h = let z : k - 0 ≡ k = omega arith in rw z (told_none k v a d h)
 
-pub told_end : (k v a i : ℕ) {d e : List ℕ} {b rest : ℕ} → Told k v a (20 - i) d e b rest → 20 ≤ i → Wrote d a (dec_digits k v) e b
-told_end k v a i t l = let z : 20 - i ≡ 0 = omega arith in told_all k v a (rw z at t)
+pub told_end : (k v a j : ℕ) {d e : List ℕ} {b rest : ℕ} → Told k v a (k - j) d e b rest → k ≤ j → Wrote d a (dec_digits k v) e b
+told_end k v a j t l = let z : k - j ≡ 0 = omega arith in told_all k v a (rw z at t)
 
-module _ (k v a i : ℕ) (d e : List ℕ) (b rest : ℕ) (t : Told k v a (20 - i) d e b rest) (o : 20 - k ≤ i) (h : i < 20) (ps : List ℕ) (tens : are_tens ps ≡ true) (n : length ps ≡ 20) where
+abbrev pub last : ℕ → List ℕ → List ℕ
+last k ps = take (20 - (20 - k)) (drop (20 - k) ps)
+
+last_length : (k : ℕ) (ps : List ℕ) → k ≤ 20 → length ps ≡ 20 → length (last k ps) ≡ k
+last_length k ps o n = simp (length-take, length-drop) (omega arith)
+
+module _ (k v a j : ℕ) (d e : List ℕ) (b rest : ℕ) (t : Told k v a (k - j) d e b rest) (o : k ≤ 20) (ps : List ℕ) (tens : are_tens ps ≡ true) (n : length ps ≡ 20) (l : j < length (last k ps)) where
   abbrev m : ℕ
-  m = 20 - suc i
+  m = k - suc j
+
+  h : j < k
+  h = omega (arith, last_length k ps o n)
 
   here : Told k v a (suc m) d e b rest
-  here = let z : 20 - i ≡ suc m = omega arith in rw z at t
+  here = let z : k - j ≡ suc m = omega (arith, h) in rw z at t
 
-  power : get_or ps i 0 ≡ 10 ^ m
-  power = power_at ps tens i (omega arith) ∙ ap (λ (x : ℕ). 10 ^ (x - suc i)) n
+  power : get_or (last k ps) j 0 ≡ 10 ^ m
+  power =
+      let z : length ps - suc (20 - k + j) ≡ m = omega (arith, h) in
+      get_or-take (20 - (20 - k)) (drop (20 - k) ps) j 0 (omega (arith, h)) ∙ get_or-drop (20 - k) ps j 0
+      ∙ power_at ps tens (20 - k + j) (omega (arith, h)) ∙ ap (λ (x : ℕ). 10 ^ x) z
 
-  pub few_times : rest < 10 * get_or ps i 0
+  pub few_times : rest < 10 * get_or (last k ps) j 0
   few_times = rw power (omega (arith, here.less, pow-suc 10 m))
 
   pub has_room : (r s : ℕ) → a + length (dec_digits k v) ≤ s → r ≡ s → b < r
-  has_room r s l q = omega (arith, room_left k v a m d e b rest here (omega arith) s l)
+  has_room r s f q = omega (arith, room_left k v a m d e b rest here (omega (arith, h)) s f)
 
-  module _ (y : Bool) (u : y ≡ (leb (get_or ps i 0) v || eqb (get_or ps i 0) 1)) where
-    pub told_passed : y ≡ false → Told k v a (20 - (i + 1)) d e b rest
+  module _ (y : Bool) (u : y ≡ (leb (get_or (last k ps) j 0) v || eqb (get_or (last k ps) j 0) 1)) where
+    pub told_passed : y ≡ false → Told k v a (k - (j + 1)) d e b rest
     told_passed q =
-        let z : 20 - (i + 1) ≡ m = omega arith in
+        let z : k - (j + 1) ≡ m = omega arith in
         let s = has_none v m (rw (power, q) at (sym u)) in
-        rw z (told_none_here k v a m d e b rest here (omega arith) s.0 s.1)
+        rw z (told_none_here k v a m d e b rest here (omega (arith, h)) s.0 s.1)
 
-    pub told_next : (times rest' : ℕ) → times * get_or ps i 0 + rest' ≡ rest → rest' < get_or ps i 0 → y ≡ true → {f : List ℕ} {c : ℕ} → Wrote e b ((48 + times) ∷ []) f c → Told k v a (20 - (i + 1)) d f c rest'
+    pub told_next : (times rest' : ℕ) → times * get_or (last k ps) j 0 + rest' ≡ rest → rest' < get_or (last k ps) j 0 → y ≡ true → {f : List ℕ} {c : ℕ} → Wrote e b ((48 + times) ∷ []) f c → Told k v a (k - (j + 1)) d f c rest'
     told_next times rest' taken left q w =
-        let z : 20 - (i + 1) ≡ m = omega arith in
-        rw z (told_digit k v a m d e b rest here (omega arith) (has_one v m (rw (power, q) at (sym u))) times rest' (rw power at taken) (rw power at left) w)
+        let z : k - (j + 1) ≡ m = omega arith in
+        rw z (told_digit k v a m d e b rest here (omega (arith, h)) (has_one v m (rw (power, q) at (sym u))) times rest' (rw power at taken) (rw power at left) w)

@@ -32,6 +32,7 @@ const POWERS: [u64; 20] = [
 ];
 
 // The table by value: indexed where it stands, it would be laid out anew at each power.
+#[tactic(auto, unfolding(crate::specs::Powers::are_tens))]
 fn powers_of_ten() -> [u64; 20]
     ensures { are_tens result ≡ true }
 {
@@ -55,28 +56,20 @@ pub fn take_away(v: u64, p: u64) -> Taken
 {
     let mut times = 0;
     let mut rest = v;
-    let mut i: usize = 0;
-    while i < 9 {
+    for _ in 0..9u8 {
         if p <= rest {
             rest -= p;
             times += 1;
         }
-        i += 1;
     }
-    Taken {
-        times: times,
-        rest: rest,
-    }
+    Taken { times, rest }
 }
 
 // Whether v has a digit at the power p: it has none at a power above it, but the last digit is always written.
 fn has_digit(v: u64, p: u64) -> bool
     ensures { result ≡ (leb p v || eqb p 1) }
 {
-    if p <= v {
-        return true;
-    }
-    p == 1
+    p <= v || p == 1
 }
 
 // Writes the decimal digits of v, of which there are at most k.
@@ -87,29 +80,28 @@ fn put_digits(dst: &mut [u8], at: usize, v: u64, k: usize) -> usize
     let powers = powers_of_ten();
     let mut end = at;
     let mut rest = v;
-    let mut i = 20 - k;
-    while i < 20 {
-        let p = powers[i];
-        if has_digit(v, p) {
-            let taken = take_away(rest, p);
+    for p in &powers[20 - k..] {
+        if has_digit(v, *p) {
+            let taken = take_away(rest, *p);
             rest = taken.rest;
             end = byte_strings::put_byte(dst, end, b'0' + taken.times);
         }
-        i += 1;
     }
     end
 }
 
 // Writes a number in decimal without leading zero, and answers the place after it.
+#[tactic(auto, using(crate::proofs::DigitLaws::few_digits), unfolding(crate::specs::Digits::decimal_bytes))]
 pub fn put_decimal(dst: &mut [u8], at: usize, number: u32) -> usize
     requires { at + length (decimal_bytes number) ≤ length dst.old }
     ensures writes { Writes dst at (decimal_bytes number) result }
     ensures short { result ≤ at + 10 }
 {
-    put_digits(dst, at, number as u64, 10)
+    put_digits(dst, at, u64::from(number), 10)
 }
 
 // Writes any number in decimal without leading zero, and answers the place after it.
+#[tactic(auto, using(crate::proofs::DigitLaws::few_digits), unfolding(crate::specs::Digits::long_bytes))]
 pub fn put_long(dst: &mut [u8], at: usize, number: u64) -> usize
     requires { at + length (long_bytes number) ≤ length dst.old }
     ensures writes { Writes dst at (long_bytes number) result }

@@ -9,7 +9,7 @@ use text_classes::Class;
 fn digit_value(b: u8) -> u64
     ensures { result ≡ b - 48 }
 {
-    if b < b'0' { 0 } else { (b - b'0') as u64 }
+    u64::from(b.saturating_sub(b'0'))
 }
 
 // The number that up to ten decimal digits say.
@@ -19,47 +19,28 @@ pub fn decimal(digits: &[u8]) -> u64
     ensures small { result < 2 ^ 38 }
 {
     let mut v: u64 = 0;
-    let mut i = 0;
-    while i < digits.len() {
-        v = v * 10 + digit_value(digits[i]);
-        i += 1;
+    for digit in digits {
+        v = v * 10 + digit_value(*digit);
     }
     v
 }
 
+#[tactic(auto, unfolding(crate::specs::Decimals::is_unpadded))]
 fn is_unpadded(v: &[u8]) -> bool
     requires { 1 ≤ length v.now }
     ensures { result ≡ is_unpadded v.now }
 {
-    if v.len() == 1 {
-        return true;
-    }
-    v[0] != b'0'
+    v.len() == 1 || v[0] != b'0'
 }
 
 // Whether a value is a decimal number from low to high, of at most so many digits (up to ten) and without leading zero.
+#[tactic(auto, unfolding(crate::specs::Decimals::is_number))]
 pub fn is_number(digits: usize, low: u32, high: u32, value: &[u8]) -> bool
     requires { digits ≤ 10 }
     ensures { result ≡ is_number digits low high value.now }
 {
-    if value.len() < 1 {
-        return false;
-    }
-    if digits < value.len() {
-        return false;
-    }
-    if !text_classes::are_all(Class::Digit, value) {
-        return false;
-    }
-    if !is_unpadded(value) {
-        return false;
-    }
-    let x = decimal(value);
-    if x < (low as u64) {
-        return false;
-    }
-    if (high as u64) < x {
-        return false;
-    }
-    true
+    (1..=digits).contains(&value.len())
+        && text_classes::are_all(Class::Digit, value)
+        && is_unpadded(value)
+        && (u64::from(low)..=u64::from(high)).contains(&decimal(value))
 }

@@ -1,135 +1,114 @@
 -- Digits read two at a time: what the pairs say is what the whole says.
-use mathlib.Core.Path.{◌≡◌, refl, sym, subst}
-use mathlib.Core.Bool.{Bool, true, false, cond, and-false, ◌&&◌}
+use mathlib.Core.Path.{◌≡◌, refl, sym, ap, subst}
+use mathlib.Core.Bool.{Bool, true, false, cond, ◌&&◌}
 use mathlib.Core.List.{List, [], ◌∷◌}
 use Prim.Native.Nat.{ℕ, ◌+◌, ◌-◌, ◌*◌, ◌≤◌, ◌<◌}
 use native.Mathlib.Numerals.{add-one}
 use native.Mathlib.Omega.{arith}
-use lib.Dec.{leb}
 use lib.ListN.{length, get_or, take, drop, drop_of_length-le}
 use lib.Seq.{drop-cons}
-use borrow.Author.Tests.{le-leb, lt-leb, leb-true}
+use Rattle.std.specs.Prelude.{Option, Some, None}
+use Rattle.std.proofs.lemmas.Option.{cond_some}
 use Rattle.byte_strings.specs.Strings.{all_of}
-use Rattle.byte_strings.proofs.Flags.{nope, and_first, and_second}
-use Rattle.text_classes.specs.Classes.{are_all, is_of, within}
+use Rattle.byte_strings.proofs.Flags.{nope}
+use Rattle.byte_strings.proofs.StringLaws.{all_take, all_drop}
+use Rattle.text_classes.specs.Classes.{are_all, is_of}
 use Rattle.text_classes.specs.declared.Class.TheVariants.{Digit}
-use Rattle.text_decimals.specs.Decimals.{dec_from, decimal}
-use Rattle.text_calendar.specs.Calendar.{days_in, is_date, is_time}
-use Rattle.text_calendar.proofs.DateLaws.{century_over, year_over, month_over, day_over, days_range, hour_over, minute_over, second_over}
+use Rattle.text_decimals.specs.Decimals.{decimal}
 use Rattle.text_timestamps.specs.Timestamps.{number_at}
 
--- the number that two digits say, and 100 where one is no digit
-abbrev pub number_of : List ℕ → ℕ
-number_of l = cond (are_all Digit l) (decimal l) 100
+-- the number that digits say, or none where one is no digit
+abbrev pub number_of : List ℕ → Option ℕ
+number_of l = cond (are_all Digit l) (Some (decimal l)) None
 
-abbrev pub pair_at : List ℕ → ℕ → ℕ
+abbrev pub pair_at : List ℕ → ℕ → Option ℕ
 pair_at s at = number_of (take 2 (drop at s))
 
--- pair: a and b are the two bytes
+pub none_if : (t : Bool) (x : ℕ) → None ≡ cond t (Some x) None → t ≡ false
+none_if true x e = nope (cc)
+none_if false x e = refl
+
+-- digit
+abbrev digit_of : ℕ → Option ℕ
+digit_of b = cond (is_of Digit b) (Some (b - 48)) None
+
+-- pair: of two bytes
 module _ (s : List ℕ) (at : ℕ) (n : at + 2 ≤ length s) where
-  abbrev a : ℕ
-  a = get_or s at 0
-
-  abbrev b : ℕ
-  b = get_or s (at + 1) 0
-
-  split : drop at s ≡ a ∷ b ∷ drop (at + 2) s
+  split : drop at s ≡ get_or s at 0 ∷ get_or s (at + 1) 0 ∷ drop (at + 2) s
   split =
       let e : at + 2 ≡ at + 1 + 1 = omega arith in
       let h : at < length s = omega arith in
       let k : at + 1 < length s = omega arith in
       rw (drop-cons s at 0 h, ← add-one at, drop-cons s (at + 1) 0 k, ← add-one (at + 1), e)
 
-  pub first_below : a < 48 → 100 ≡ pair_at s at
+  pub no_first : None ≡ digit_of (get_or s at 0) → None ≡ pair_at s at
   unfolding are_all
-  first_below h = rw (split, lt-leb 48 a h)
+  no_first e = rw (split, none_if (is_of Digit (get_or s at 0)) (get_or s at 0 - 48) e)
 
-  pub first_above : 57 < a → 100 ≡ pair_at s at
-  unfolding are_all
-  first_above h = simp (split, lt-leb a 57 h, and-false)
+  module _ (x : ℕ) (f : Some x ≡ digit_of (get_or s at 0)) where
+    one : (is_of Digit (get_or s at 0) ≡ true) × (get_or s at 0 - 48 ≡ x)
+    one = cond_some (is_of Digit (get_or s at 0)) (get_or s at 0 - 48) x (sym f)
 
-  pub second_below : b < 48 → 100 ≡ pair_at s at
-  unfolding are_all
-  second_below h = simp (split, lt-leb 48 b h, and-false)
+    pub no_second : None ≡ digit_of (get_or s (at + 1) 0) → None ≡ pair_at s at
+    unfolding are_all
+    no_second e = rw (split, one.0, none_if (is_of Digit (get_or s (at + 1) 0)) (get_or s (at + 1) 0 - 48) e)
 
-  pub second_above : 57 < b → 100 ≡ pair_at s at
-  unfolding are_all
-  second_above h = simp (split, lt-leb b 57 h, and-false)
+    pub a_pair : (y : ℕ) → Some y ≡ digit_of (get_or s (at + 1) 0) → Some (x * 10 + y) ≡ pair_at s at
+    unfolding are_all
+    a_pair y e =
+        let two = cond_some (is_of Digit (get_or s (at + 1) 0)) (get_or s (at + 1) 0 - 48) y (sym e) in
+        rw (split, one.0, two.0) (ap Some (omega (arith, one.1, two.1)))
 
-  pub two_digits : 48 ≤ a → a ≤ 57 → 48 ≤ b → b ≤ 57 → (m : ℕ) → m ≡ (a - 48) * 10 + (b - 48) → m ≡ pair_at s at
-  unfolding are_all
-  two_digits p q r t m e = rw (split, le-leb 48 a p, le-leb a 57 q, le-leb 48 b r, le-leb b 57 t) (omega arith)
-
--- a pair p that is read of two bytes: their number, below 100, or 100
-module _ (a b p : ℕ) where
-  read_pair : (t : Bool) → are_all Digit (a ∷ b ∷ []) ≡ t → p ≡ number_of (a ∷ b ∷ []) → p ≡ cond t (decimal (a ∷ b ∷ [])) 100
-  read_pair t e q = rw e at q
-
-  pair_below : are_all Digit (a ∷ b ∷ []) ≡ true → p ≡ decimal (a ∷ b ∷ []) → p ≤ 99
-  unfolding are_all
-  pair_below e q =
-      let i = leb-true a 57 (and_second (leb 48 a) (leb a 57) (and_first (within a 48 57) (within b 48 57 && true) e)) in
-      let j = leb-true b 57 (and_second (leb 48 b) (leb b 57) (and_first (within b 48 57) true (and_second (within a 48 57) (within b 48 57 && true) e))) in
-      omega arith
-
-all_pairs : (a b : ℕ) (l : List ℕ) → are_all Digit (a ∷ b ∷ l) ≡ (are_all Digit (a ∷ b ∷ []) && are_all Digit l)
+-- a pair that is none: not all are digits
+pub no_pair : (s : List ℕ) (at : ℕ) → None ≡ pair_at s at → are_all Digit s ≡ false
 unfolding are_all
-all_pairs a b l = by_case (within a 48 57) (within b 48 57)
+no_pair s at e = by_case (all_of (is_of Digit) s) refl
   where
-    by_case : (x y : Bool) → (x && (y && all_of (is_of Digit) l)) ≡ ((x && (y && true)) && all_of (is_of Digit) l)
-    by_case true true = refl
-    by_case true false = refl
-    by_case false y = refl
+    by_case : (t : Bool) → all_of (is_of Digit) s ≡ t → t ≡ false
+    by_case false p = refl
+    by_case true p =
+        let q = none_if (all_of (is_of Digit) (take 2 (drop at s))) (decimal (take 2 (drop at s))) e in
+        let r = all_take (is_of Digit) 2 (drop at s) (all_drop (is_of Digit) at s p) in
+        nope (cc)
 
--- eight digits: what is asked of their number is asked of four pairs, the century, the year in it, the month and the day
-module _ (a b c d e f g h p q r t : ℕ) (i : p ≡ number_of (a ∷ b ∷ [])) (j : q ≡ number_of (c ∷ d ∷ [])) (k : r ≡ number_of (e ∷ f ∷ [])) (l : t ≡ number_of (g ∷ h ∷ [])) where
-  abbrev date : List ℕ
-  date = a ∷ b ∷ c ∷ d ∷ e ∷ f ∷ g ∷ h ∷ []
+all_pairs : (a b : ℕ) (l : List ℕ) → are_all Digit (a ∷ b ∷ []) ≡ true → are_all Digit l ≡ true → are_all Digit (a ∷ b ∷ l) ≡ true
+unfolding are_all
+all_pairs a b l p q = by_case (is_of Digit a) (is_of Digit b) p
+  where
+    by_case : (x y : Bool) → (x && (y && true)) ≡ true → (x && (y && all_of (is_of Digit) l)) ≡ true
+    by_case true true e = q
+    by_case true false e = nope (cc)
+    by_case false y e = nope (cc)
 
-  date_by_pairs : ((are_all Digit date && is_date (number_at 0 4 date) (number_at 4 2 date) (number_at 6 2 date)) ≡ (leb q 99 && is_date (p * 100 + q) r t))
-      × (are_all Digit date ≡ true → decimal date ≡ ((p * 100 + q) * 100 + r) * 100 + t)
-  date_by_pairs =
-      rw (all_pairs a b (c ∷ d ∷ e ∷ f ∷ g ∷ h ∷ []), all_pairs c d (e ∷ f ∷ g ∷ h ∷ []), all_pairs e f (g ∷ h ∷ []))
-      (by_case (are_all Digit (a ∷ b ∷ [])) (are_all Digit (c ∷ d ∷ [])) (are_all Digit (e ∷ f ∷ [])) (are_all Digit (g ∷ h ∷ [])) refl refl refl refl)
-    where
-      by_case : (w x y z : Bool) → are_all Digit (a ∷ b ∷ []) ≡ w → are_all Digit (c ∷ d ∷ []) ≡ x → are_all Digit (e ∷ f ∷ []) ≡ y → are_all Digit (g ∷ h ∷ []) ≡ z
-          → (((w && (x && (y && z))) && is_date (number_at 0 4 date) (number_at 4 2 date) (number_at 6 2 date)) ≡ (leb q 99 && is_date (p * 100 + q) r t))
-          × ((w && (x && (y && z))) ≡ true → decimal date ≡ ((p * 100 + q) * 100 + r) * 100 + t)
-      by_case true true true true m n o u =
-          let pp = read_pair a b p true m i in
-          let qq = read_pair c d q true n j in
-          let rr = read_pair e f r true o k in
-          let tt' = read_pair g h t true u l in
-          let year : number_at 0 4 date ≡ p * 100 + q = omega arith in
-          (rw (le-leb q 99 (pair_below c d q n qq), year, ← rr, ← tt'), λ v. omega arith)
-      by_case true true true false m n o u =
-          let k' = days_range (p * 100 + q) r in
-          (day_over p q r t (omega (arith, read_pair g h t false u l)), λ v. nope (cc))
-      by_case true true false z m n o u = (month_over p q r t (omega (arith, read_pair e f r false o k)), λ v. nope (cc))
-      by_case true false y z m n o u = (year_over p q r t (omega (arith, read_pair c d q false n j)), λ v. nope (cc))
-      by_case false x y z m n o u = (century_over p q r t (omega (arith, read_pair a b p false m i)), λ v. nope (cc))
+-- a pair that is read of two bytes
+read : (a b p : ℕ) → Some p ≡ number_of (a ∷ b ∷ []) → (are_all Digit (a ∷ b ∷ []) ≡ true) × (decimal (a ∷ b ∷ []) ≡ p)
+read a b p e = cond_some (are_all Digit (a ∷ b ∷ [])) (decimal (a ∷ b ∷ [])) p (sym e)
 
--- six digits are three pairs: the hour, the minute and the second
-module _ (a b c d e f p q r : ℕ) (i : p ≡ number_of (a ∷ b ∷ [])) (j : q ≡ number_of (c ∷ d ∷ [])) (k : r ≡ number_of (e ∷ f ∷ [])) where
-  abbrev time : List ℕ
-  time = a ∷ b ∷ c ∷ d ∷ e ∷ f ∷ []
+-- what the pairs of a date and of a time say of their digits
+abbrev pub DateBy : ℕ → ℕ → ℕ → ℕ → List ℕ → Type 0
+DateBy p q r t s = (are_all Digit s ≡ true) × (number_at 0 4 s ≡ p * 100 + q) × (number_at 4 2 s ≡ r) × (number_at 6 2 s ≡ t)
+    × (decimal s ≡ ((p * 100 + q) * 100 + r) * 100 + t)
 
-  time_by_pairs : ((are_all Digit time && is_time (number_at 0 2 time) (number_at 2 2 time) (number_at 4 2 time)) ≡ is_time p q r)
-      × (are_all Digit time ≡ true → decimal time ≡ (p * 100 + q) * 100 + r)
-  time_by_pairs =
-      rw (all_pairs a b (c ∷ d ∷ e ∷ f ∷ []), all_pairs c d (e ∷ f ∷ []))
-      (by_case (are_all Digit (a ∷ b ∷ [])) (are_all Digit (c ∷ d ∷ [])) (are_all Digit (e ∷ f ∷ [])) refl refl refl)
-    where
-      by_case : (w x y : Bool) → are_all Digit (a ∷ b ∷ []) ≡ w → are_all Digit (c ∷ d ∷ []) ≡ x → are_all Digit (e ∷ f ∷ []) ≡ y
-          → (((w && (x && y)) && is_time (number_at 0 2 time) (number_at 2 2 time) (number_at 4 2 time)) ≡ is_time p q r) × ((w && (x && y)) ≡ true → decimal time ≡ (p * 100 + q) * 100 + r)
-      by_case true true true m n o =
-          let pp = read_pair a b p true m i in
-          let qq = read_pair c d q true n j in
-          let rr = read_pair e f r true o k in
-          (rw (← pp, ← qq, ← rr), λ v. omega arith)
-      by_case true true false m n o = (second_over p q r (omega (arith, read_pair e f r false o k)), λ v. nope (cc))
-      by_case true false y m n o = (minute_over p q r (omega (arith, read_pair c d q false n j)), λ v. nope (cc))
-      by_case false x y m n o = (hour_over p q r (omega (arith, read_pair a b p false m i)), λ v. nope (cc))
+abbrev pub TimeBy : ℕ → ℕ → ℕ → List ℕ → Type 0
+TimeBy p q r s = (are_all Digit s ≡ true) × (number_at 0 2 s ≡ p) × (number_at 2 2 s ≡ q) × (number_at 4 2 s ≡ r)
+    × (decimal s ≡ (p * 100 + q) * 100 + r)
+
+date_by_pairs : (a b c d e f g h p q r t : ℕ) → Some p ≡ number_of (a ∷ b ∷ []) → Some q ≡ number_of (c ∷ d ∷ []) → Some r ≡ number_of (e ∷ f ∷ []) → Some t ≡ number_of (g ∷ h ∷ []) → DateBy p q r t (a ∷ b ∷ c ∷ d ∷ e ∷ f ∷ g ∷ h ∷ [])
+date_by_pairs a b c d e f g h p q r t i j k l =
+    let pp = read a b p i in
+    let qq = read c d q j in
+    let rr = read e f r k in
+    let tt' = read g h t l in
+    let digits = all_pairs a b (c ∷ d ∷ e ∷ f ∷ g ∷ h ∷ []) pp.0 (all_pairs c d (e ∷ f ∷ g ∷ h ∷ []) qq.0 (all_pairs e f (g ∷ h ∷ []) rr.0 tt'.0)) in
+    (digits, omega arith, rr.1, tt'.1, omega arith)
+
+time_by_pairs : (a b c d e f p q r : ℕ) → Some p ≡ number_of (a ∷ b ∷ []) → Some q ≡ number_of (c ∷ d ∷ []) → Some r ≡ number_of (e ∷ f ∷ []) → TimeBy p q r (a ∷ b ∷ c ∷ d ∷ e ∷ f ∷ [])
+time_by_pairs a b c d e f p q r i j k =
+    let pp = read a b p i in
+    let qq = read c d q j in
+    let rr = read e f r k in
+    let digits = all_pairs a b (c ∷ d ∷ e ∷ f ∷ []) pp.0 (all_pairs c d (e ∷ f ∷ []) qq.0 rr.0) in
+    (digits, pp.1, qq.1, rr.1, omega arith)
 
 -- a list of eight bytes, and one of six, as its bytes
 module _ (s : List ℕ) where
@@ -142,21 +121,12 @@ module _ (s : List ℕ) where
   eight_bytes : length s ≡ 8 → s ≡ get_or s 0 0 ∷ get_or s 1 0 ∷ get_or s 2 0 ∷ get_or s 3 0 ∷ get_or s 4 0 ∷ get_or s 5 0 ∷ get_or s 6 0 ∷ get_or s 7 0 ∷ []
   eight_bytes n = two_more 0 (omega arith) _ (six_bytes 2 n)
 
--- what the pairs of a date and of a time say of their digits
-abbrev pub DateBy : ℕ → ℕ → ℕ → ℕ → List ℕ → Type 0
-DateBy p q r t s = ((are_all Digit s && is_date (number_at 0 4 s) (number_at 4 2 s) (number_at 6 2 s)) ≡ (leb q 99 && is_date (p * 100 + q) r t))
-    × (are_all Digit s ≡ true → decimal s ≡ ((p * 100 + q) * 100 + r) * 100 + t)
-
-abbrev pub TimeBy : ℕ → ℕ → ℕ → List ℕ → Type 0
-TimeBy p q r s = ((are_all Digit s && is_time (number_at 0 2 s) (number_at 2 2 s) (number_at 4 2 s)) ≡ is_time p q r)
-    × (are_all Digit s ≡ true → decimal s ≡ (p * 100 + q) * 100 + r)
-
-pub date_pairs : (s : List ℕ) → length s ≡ 8 → (p q r t : ℕ) → p ≡ pair_at s 0 → q ≡ pair_at s 2 → r ≡ pair_at s 4 → t ≡ pair_at s 6 → DateBy p q r t s
+pub date_pairs : (s : List ℕ) → length s ≡ 8 → (p q r t : ℕ) → Some p ≡ pair_at s 0 → Some q ≡ pair_at s 2 → Some r ≡ pair_at s 4 → Some t ≡ pair_at s 6 → DateBy p q r t s
 date_pairs s n p q r t =
-    subst (λ (u : List ℕ). p ≡ pair_at u 0 → q ≡ pair_at u 2 → r ≡ pair_at u 4 → t ≡ pair_at u 6 → DateBy p q r t u) (sym (eight_bytes s n))
-    (λ i j k l. date_by_pairs (get_or s 0 0) (get_or s 1 0) (get_or s 2 0) (get_or s 3 0) (get_or s 4 0) (get_or s 5 0) (get_or s 6 0) (get_or s 7 0) p q r t i j k l)
+    subst (λ (u : List ℕ). Some p ≡ pair_at u 0 → Some q ≡ pair_at u 2 → Some r ≡ pair_at u 4 → Some t ≡ pair_at u 6 → DateBy p q r t u) (sym (eight_bytes s n))
+    (date_by_pairs (get_or s 0 0) (get_or s 1 0) (get_or s 2 0) (get_or s 3 0) (get_or s 4 0) (get_or s 5 0) (get_or s 6 0) (get_or s 7 0) p q r t)
 
-pub time_pairs : (s : List ℕ) → length s ≡ 6 → (p q r : ℕ) → p ≡ pair_at s 0 → q ≡ pair_at s 2 → r ≡ pair_at s 4 → TimeBy p q r s
+pub time_pairs : (s : List ℕ) → length s ≡ 6 → (p q r : ℕ) → Some p ≡ pair_at s 0 → Some q ≡ pair_at s 2 → Some r ≡ pair_at s 4 → TimeBy p q r s
 time_pairs s n p q r =
-    subst (λ (u : List ℕ). p ≡ pair_at u 0 → q ≡ pair_at u 2 → r ≡ pair_at u 4 → TimeBy p q r u) (sym (six_bytes s 0 n))
-    (λ i j k. time_by_pairs (get_or s 0 0) (get_or s 1 0) (get_or s 2 0) (get_or s 3 0) (get_or s 4 0) (get_or s 5 0) p q r i j k)
+    subst (λ (u : List ℕ). Some p ≡ pair_at u 0 → Some q ≡ pair_at u 2 → Some r ≡ pair_at u 4 → TimeBy p q r u) (sym (six_bytes s 0 n))
+    (time_by_pairs (get_or s 0 0) (get_or s 1 0) (get_or s 2 0) (get_or s 3 0) (get_or s 4 0) (get_or s 5 0) p q r)

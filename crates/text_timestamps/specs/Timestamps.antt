@@ -1,14 +1,13 @@
 -- Timestamps YYYYMMDDThhmmssZ (003 clause 5.1.4) and PTVD dates CCYYMMDDhhmmss (001 Table 6): Gregorian, years 1900
 -- to 9999, no leap seconds (document 01).
-use Rattle.std.specs.Prelude.{ℕ, ◌+◌, ◌*◌, Bool, true, false, cond, List, [], ◌∷◌, ltb, eqb, length, get_or, take, drop}
+use Rattle.std.specs.Prelude.{ℕ, ◌+◌, ◌*◌, Bool, false, cond, List, [], ◌∷◌, ltb, eqb, length, get_or, take, drop}
+use Rattle.std.specs.Prelude.{Option, Some, None}
 use Prim.Native.Char.{code}
 use Rattle.byte_strings.specs.Texts.{all}
 use Rattle.text_classes.specs.Classes.{are_all}
 use Rattle.text_classes.specs.declared.Class.TheVariants.{Digit}
 use Rattle.text_decimals.specs.Decimals.{decimal}
 use Rattle.text_calendar.specs.Calendar.{is_date, is_time}
-use Rattle.text_timestamps.specs.declared.Moment.{Moment}
-use Rattle.text_timestamps.specs.declared.Moment.TheVariants.{At, Bad}
 
 -- the number that so many digits from a place on say
 abbrev pub number_at : ℕ → ℕ → List ℕ → ℕ
@@ -43,19 +42,15 @@ is_date_time s =
     ∷ [])
 
 -- the moment of a timestamp as the number YYYYMMDDhhmmss, which is greater for the later one
-unfoldable pub timestamp_of : List ℕ → Moment
-timestamp_of s = cond (is_timestamp s) (At (number_at 0 8 s * 1000000 + number_at 9 6 s)) Bad
+unfoldable pub timestamp_of : List ℕ → Option ℕ
+timestamp_of s = cond (is_timestamp s) (Some (number_at 0 8 s * 1000000 + number_at 9 6 s)) None
 
 -- the moment of a PTVD date, as the same number
-unfoldable pub date_time_of : List ℕ → Moment
-date_time_of s = cond (is_date_time s) (At (number_at 0 8 s * 1000000 + number_at 8 6 s)) Bad
+unfoldable pub date_time_of : List ℕ → Option ℕ
+date_time_of s = cond (is_date_time s) (Some (number_at 0 8 s * 1000000 + number_at 8 6 s)) None
 
-abbrev pub is_moment : Moment → Bool
-is_moment (At x) = true
-is_moment Bad = false
-
--- x is a moment later than the moment y
-abbrev pub is_later : Moment → Moment → Bool
-is_later (At x) (At y) = ltb y x
-is_later (At x) Bad = false
-is_later Bad y = false
+-- there is a moment x, and it is later than the moment y
+abbrev pub is_later : Option ℕ → Option ℕ → Bool
+is_later (Some x) (Some y) = ltb y x
+is_later (Some x) None = false
+is_later None y = false
