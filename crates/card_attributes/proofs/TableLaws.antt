@@ -2,7 +2,7 @@
 use mathlib.Core.Path.{◌≡◌, refl, ap, subst}
 use mathlib.Core.Bool.{Bool, true, false, ◌&&◌}
 use mathlib.Core.List.{List, [], ◌∷◌, ◌++◌, map}
-use Prim.Native.Nat.{ℕ, zero, suc, ◌+◌, ◌≤◌, ◌<◌}
+use Prim.Native.Nat.{ℕ, zero, suc, ◌≤◌, ◌<◌}
 use native.Mathlib.Omega.{arith}
 use lib.Dec.{T, ltb, ltb→lt}
 use lib.ListN.{length, take, drop, length-drop, drop_of_length-le}
@@ -45,13 +45,6 @@ module _ (k : ℕ) (a : Attribute) (r : List Attribute) (e : drop k table ≡ a 
 pub all_but_sgn : (always ≡ take 13 table ++ drop 14 table) × (map name (take 1 (drop 13 table)) ≡ SGN ∷ [])
 unfolding table always
 all_but_sgn = (refl, refl)
-
--- an arm of the match on a row's number
-pub row_arm : (k n : ℕ) → k ≡ n → (a : Attribute) → drop n table ≡ a ∷ drop (n + 1) table → drop k table ≡ a ∷ drop (k + 1) table
-row_arm k n e a p = rw e p
-
-pub past : (k n : ℕ) → n ≤ k → (k ≡ n → ⊥) → suc n ≤ k
-past k n h o = omega (arith, o)
 
 pub table_end : (k : ℕ) → rows ≤ k → drop k table ≡ []
 unfolding table

@@ -56,6 +56,7 @@ pub struct Attribute(pub u32, pub Presence, pub Form);
 pub const ROWS: usize = 16;
 
 // An attribute by its index. A match, since a table that is indexed would be laid out anew at each call.
+#[tactic(auto, unfolding(crate::specs::Table::table))]
 pub fn row(index: usize) -> Attribute
     requires { index < rows }
     ensures { drop index table ≡ result ∷ drop (index + 1) table }

@@ -1,14 +1,14 @@
--- The cases of names, each with what the code knows where it answers as premises; and the value under a name.
+-- Names of entries, and the value under a name.
 use mathlib.Core.Path.{◌≡◌, refl, sym, ap, ◌∙◌}
-use mathlib.Core.Bool.{Bool, true, false, cond, not, ◌&&◌, and-false, and-true}
+use mathlib.Core.Bool.{Bool, true, false, cond, ◌&&◌, and-false, and-true}
 use mathlib.Core.List.{List, [], ◌∷◌}
 use mathlib.Core.Option.{Option, some}
-use Prim.Native.Nat.{ℕ, ◌+◌, ◌-◌, ◌*◌, ◌≤◌, ◌<◌}
+use Prim.Native.Nat.{ℕ, ◌+◌, ◌-◌, ◌≤◌, ◌<◌}
 use native.Mathlib.Omega.{arith}
 use lib.Dec.{leb}
 use lib.ListN.{length, get_or, take, drop, length-append, length-drop, get_or-eq_default}
 use lib.Seq.{drop-drop, length-take-le}
-use borrow.Author.Tests.{eq-eqb, ne_eqb, leb-true, not-true, not-false}
+use borrow.Author.Tests.{eq-eqb, ne_eqb, leb-true}
 use Rattle.byte_strings.specs.Strings.{run, is_not, all_of}
 use Rattle.byte_pieces.specs.Pieces.{pieces}
 use Rattle.byte_pieces.proofs.PieceLaws.{next_piece}
@@ -21,30 +21,10 @@ use Rattle.card_entries.specs.declared.Found.TheVariants.{At}
 use Rattle.byte_strings.proofs.Flags.{and_first}
 use Rattle.byte_strings.proofs.StringLaws.{drop_take}
 
--- name_of
-module _ (p : List ℕ) where
-  pub too_short : length p < 3 → 0 ≡ name_of p
-  unfolding name_of
-  too_short h = rw (get_or-eq_default p 0 {n = 2} (omega arith), and-false, and-false)
-
-  module _ (f : Bool) (a : f ≡ is_of Capital (get_or p 0 0)) where
-    pub no_first : not f ≡ true → 0 ≡ name_of p
-    unfolding name_of
-    no_first o = rw (← a, not-true f o)
-
-    module _ (i : not f ≡ false) (g : Bool) (b : g ≡ is_of Capital (get_or p 1 0)) where
-      pub no_second : not g ≡ true → 0 ≡ name_of p
-      unfolding name_of
-      no_second o = rw (← a, not-false f i, ← b, not-true g o)
-
-      module _ (j : not g ≡ false) (h : Bool) (c : h ≡ is_of Capital (get_or p 2 0)) where
-        pub no_third : not h ≡ true → 0 ≡ name_of p
-        unfolding name_of
-        no_third o = rw (← a, not-false f i, ← b, not-false g j, ← c, not-true h o)
-
-        pub named : not h ≡ false → (x y z : ℕ) → x ≡ get_or p 0 0 → y ≡ get_or p 1 0 → z ≡ get_or p 2 0 → x * 65536 + y * 256 + z ≡ name_of p
-        unfolding name_of
-        named o x y z d e k = rw (← a, not-false f i, ← b, not-false g j, ← c, not-false h o, d, e, k)
+-- what is shorter than three bytes has no name
+too_short : (p : List ℕ) → length p < 3 → 0 ≡ name_of p
+unfolding name_of
+too_short p h = rw (get_or-eq_default p 0 {n = 2} (omega arith), and-false, and-false)
 
 -- an entry with a name has three bytes
 pub name_length : (p : List ℕ) → 0 < name_of p → 3 ≤ length p

@@ -13,28 +13,20 @@ pub enum Found {
     Nothing,
 }
 
-fn wide(b: u8) -> u32
-    ensures value { result ≡ b }
-    ensures small { result < 256 }
-{
-    b as u32
-}
-
 // The name of an entry, 0 where it has none.
+#[tactic(auto, unfolding(crate::specs::Entries::name_of))]
 pub fn name_of(entry: &[u8]) -> u32
     ensures { result ≡ name_of entry.now }
 {
-    if entry.len() < 3 {
+    let [first, second, third, ..] = entry else {
         return 0;
+    };
+    if text_classes::is_of(Class::Capital, *first)
+        && text_classes::is_of(Class::Capital, *second)
+        && text_classes::is_of(Class::Capital, *third)
+    {
+        u32::from(*first) * 65536 + u32::from(*second) * 256 + u32::from(*third)
+    } else {
+        0
     }
-    if !text_classes::is_of(Class::Capital, entry[0]) {
-        return 0;
-    }
-    if !text_classes::is_of(Class::Capital, entry[1]) {
-        return 0;
-    }
-    if !text_classes::is_of(Class::Capital, entry[2]) {
-        return 0;
-    }
-    wide(entry[0]) * 65536 + wide(entry[1]) * 256 + wide(entry[2])
 }

@@ -1,12 +1,12 @@
 -- The value that a load stores under a name, by the bounds of the incoming card's.
-use mathlib.Core.Path.{◌≡◌, refl, sym, ap, ◌∙◌}
+use mathlib.Core.Path.{◌≡◌, refl, ap, ◌∙◌}
 use mathlib.Core.Bool.{Bool, true, false, cond}
 use mathlib.Core.List.{List, [], ◌∷◌}
-use mathlib.Core.Option.{none}
-use Prim.Native.Nat.{ℕ, ◌+◌, ◌-◌, ◌≤◌, ◌<◌}
+use mathlib.Core.Option.{none, some}
+use Prim.Native.Nat.{ℕ, ◌+◌, ◌<◌}
 use lib.Dec.{eqb}
-use lib.ListN.{length, get_or, take, drop}
-use borrow.Author.Tests.{eq-eqb, ne_eqb}
+use lib.ListN.{get_or, drop}
+use borrow.Author.Tests.{eq-eqb, ne_eqb, eqb-true}
 use Rattle.byte_strings.specs.Texts.{text}
 use Rattle.byte_strings.specs.Strings.{all_of, is_not}
 use Rattle.byte_strings.proofs.Flags.{and_first, and_second}
@@ -15,18 +15,13 @@ use Rattle.byte_pieces.proofs.PieceLaws.{pieces_cons}
 use Rattle.byte_bounds.specs.Bounds.{bytes_in, nowhere}
 use Rattle.byte_bounds.specs.declared.Bounds.{Bounds}
 use Rattle.card_entries.specs.Entries.{semicolon, entries, name_of, value_of, or_else, value_or}
-use Rattle.card_attributes.specs.Table.{CLM, CLU, IUT, KCV, KSL, SBM, ULM, VND, table, rows, name}
+use Rattle.card_attributes.specs.Table.{CLM, IUT, SBM, ULM, table, rows, name}
 use Rattle.card_attributes.specs.declared.Attribute.{Attribute}
 use Rattle.card_incoming.specs.Incoming.{every, value_at, AreValues}
 use Rattle.card_incoming.proofs.ValueLaws.{row_name}
-use Rattle.card_stored.specs.Stored.{load_values, stored_value, default_card}
+use Rattle.card_stored.specs.Stored.{default_card}
 
--- default_value
-pub default_long : (d : List ℕ) → d ≡ default_card → (e : ℕ) → e ≤ 53 → e ≤ length d
-unfolding default_card
-default_long d p e h = rw p h
-
--- the entries of the default card
+-- default_value: the entries of the default card
 cut : (ps : List (List ℕ)) → every (all_of (is_not semicolon)) ps ≡ true → entries (joined semicolon ps) ≡ ps
 cut [] e = refl
 cut (p ∷ ps) e =
@@ -40,85 +35,36 @@ default_entries : entries default_card ≡ defaults
 unfolding default_card
 default_entries = let e : default_card ≡ joined semicolon defaults = refl in ap entries e ∙ cut defaults refl
 
--- where its values stand
-place_clm : take (11 - 3) (drop 3 default_card) ≡ text "FFFFFFFF"
-unfolding default_card
-place_clm = refl
+-- the value that it has under a name
+module _ (clm iut sbm ulm : List ℕ) where
+  abbrev one_of : Bool → Bool → Bool → Bool → List ℕ
+  one_of a b c d = cond a clm (cond b iut (cond c sbm (cond d ulm [])))
 
-place_iut : take (31 - 15) (drop 15 default_card) ≡ text "20380119T031407Z"
-unfolding default_card
-place_iut = refl
+  some_of : (a b c d : Bool) → or_else (cond a (some clm) (cond b (some iut) (cond c (some sbm) (cond d (some ulm) none)))) [] ≡ one_of a b c d
+  some_of true b c d = refl
+  some_of false true c d = refl
+  some_of false false true d = refl
+  some_of false false false true = refl
+  some_of false false false false = refl
 
-place_sbm : take (39 - 35) (drop 35 default_card) ≡ text "FFFF"
-unfolding default_card
-place_sbm = refl
-
-place_ulm : take (52 - 43) (drop 43 default_card) ≡ text "999999999"
-unfolding default_card
-place_ulm = refl
-
-module _ (d : List ℕ) (p : d ≡ default_card) (n : ℕ) where
-  pub default_clm : n ≡ CLM → take (11 - 3) (drop 3 d) ≡ or_else (value_of n default_card) []
-  unfolding value_of name_of
-  default_clm e = rw (p, e, default_entries) place_clm
-
-  pub default_iut : n ≡ IUT → take (31 - 15) (drop 15 d) ≡ or_else (value_of n default_card) []
-  unfolding value_of name_of
-  default_iut e = rw (p, e, default_entries) place_iut
-
-  pub default_sbm : n ≡ SBM → take (39 - 35) (drop 35 d) ≡ or_else (value_of n default_card) []
-  unfolding value_of name_of
-  default_sbm e = rw (p, e, default_entries) place_sbm
-
-  pub default_ulm : n ≡ ULM → take (52 - 43) (drop 43 d) ≡ or_else (value_of n default_card) []
-  unfolding value_of name_of
-  default_ulm e = rw (p, e, default_entries) place_ulm
-
-pub default_none : (n : ℕ) → (n ≡ CLM → ⊥) → (n ≡ IUT → ⊥) → (n ≡ SBM → ⊥) → (n ≡ ULM → ⊥) → [] ≡ or_else (value_of n default_card) []
+pub default_is : (n : ℕ) → or_else (value_of n default_card) [] ≡
+    cond (eqb CLM n) (text "FFFFFFFF") (cond (eqb IUT n) (text "20380119T031407Z") (cond (eqb SBM n) (text "FFFF") (cond (eqb ULM n) (text "999999999") [])))
 unfolding value_of name_of
-default_none n a b c d = rw (default_entries, not_it CLM a, not_it IUT b, not_it SBM c, not_it ULM d) (go (eqb n 0))
+default_is n = rw default_entries (go (eqb n 0) refl)
   where
-    not_it : (m : ℕ) → (n ≡ m → ⊥) → eqb m n ≡ false
-    not_it m o = ne_eqb m n (λ e. o (sym e))
+    go : (t : Bool) → eqb n 0 ≡ t → or_else (cond t none (cond (eqb CLM n) (some (text "FFFFFFFF")) (cond (eqb IUT n) (some (text "20380119T031407Z")) (cond (eqb SBM n) (some (text "FFFF")) (cond (eqb ULM n) (some (text "999999999")) none))))) [] ≡ one_of (text "FFFFFFFF") (text "20380119T031407Z") (text "FFFF") (text "999999999") (eqb CLM n) (eqb IUT n) (eqb SBM n) (eqb ULM n)
+    go true e = let z : n ≡ 0 = eqb-true n 0 e in rw z
+    go false e = some_of (text "FFFFFFFF") (text "20380119T031407Z") (text "FFFF") (text "999999999") (eqb CLM n) (eqb IUT n) (eqb SBM n) (eqb ULM n)
 
-    go : (t : Bool) → [] ≡ or_else (cond t none none) []
-    go true = refl
-    go false = refl
+-- card_value: b are the bounds that are noted of the incoming card's value
+module _ (card : List ℕ) (n : ℕ) (b : Bounds) (w : value_at card b ≡ value_of n card) (v : List ℕ) where
+  pub value_absent : b.start ≡ 0 → v ≡ or_else (value_of n default_card) [] → v ≡ value_or n card default_card
+  unfolding value_or
+  value_absent e p = rw (← w, eq-eqb b.start 0 e, p)
 
--- load_value
-module _ (card check slot : List ℕ) (n : ℕ) where
-  abbrev stored : List ℕ
-  stored = stored_value card (load_values check slot) n
-
-  pub load_kcv : n ≡ KCV → check ≡ stored
-  unfolding stored_value
-  load_kcv e = rw e
-
-  pub load_ksl : n ≡ KSL → slot ≡ stored
-  unfolding stored_value
-  load_ksl e = rw e
-
-  module _ (zero : List ℕ) (z : zero ≡ text "0") where
-    pub load_clu : n ≡ CLU → zero ≡ stored
-    unfolding stored_value
-    load_clu e = rw (e, z)
-
-    pub load_vnd : n ≡ VND → zero ≡ stored
-    unfolding stored_value
-    load_vnd e = rw (e, z)
-
-  module _ (clu : n ≡ CLU → ⊥) (kcv : n ≡ KCV → ⊥) (ksl : n ≡ KSL → ⊥) (vnd : n ≡ VND → ⊥) (b : Bounds) (w : value_at card b ≡ value_of n card) (v : List ℕ) where
-    from_card : v ≡ value_or n card default_card → v ≡ stored
-    unfolding stored_value
-    from_card p = rw (ne_eqb n CLU clu, ne_eqb n KCV kcv, ne_eqb n KSL ksl, ne_eqb n VND vnd, p)
-
-    pub load_default : b.start ≡ 0 → v ≡ or_else (value_of n default_card) [] → v ≡ stored
-    unfolding value_or
-    load_default e p = from_card (rw (← w, eq-eqb b.start 0 e, p))
-
-    pub load_card : (b.start ≡ 0 → ⊥) → v ≡ bytes_in card b → v ≡ stored
-    unfolding value_or
-    load_card e p = from_card (rw (← w, ne_eqb b.start 0 e, p))
+  pub value_there : (b.start ≡ 0 → ⊥) → v ≡ bytes_in card b → v ≡ value_or n card default_card
+  unfolding value_or
+  value_there e p = rw (← w, ne_eqb b.start 0 e, p)
 
 -- put_stored: the bounds of the k-th attribute's value
 module _ (values : List Bounds) (card : List ℕ) (w : AreValues values card) (k : ℕ) (h : k < rows) where

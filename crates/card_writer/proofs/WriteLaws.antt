@@ -2,12 +2,13 @@
 use mathlib.Core.Path.{◌≡◌, refl, sym, ap, ◌∙◌}
 use mathlib.Core.Bool.{Bool, true, false, cond, not, ◌||◌}
 use mathlib.Core.List.{List, [], ◌∷◌, ◌++◌}
-use Prim.Native.Nat.{ℕ, ◌+◌, ◌≤◌}
+use Prim.Native.Nat.{ℕ, ◌+◌, ◌≤◌, ◌<◌}
 use native.Mathlib.Omega.{arith}
 use lib.Dec.{eqb}
-use lib.ListN.{length, drop, replicate, length-append, length-replicate}
+use lib.ListN.{length, take, drop, replicate, length-append, length-replicate}
 use lib.Seq.{sets}
-use borrow.Author.Tests.{not-true, not-false}
+use Rattle.std.specs.Int.{to_be_bytes}
+use Rattle.std.proofs.Common.{w32}
 use Rattle.byte_strings.specs.Wrote.{Wrote}
 use Rattle.byte_strings.specs.Lists.{rows_that}
 use Rattle.byte_strings.proofs.Writes.{then, from_start, sets_append, none}
@@ -16,22 +17,20 @@ use Rattle.card_entries.specs.Entries.{name_bytes, value_of, is_some, entry_byte
 use Rattle.card_entries.proofs.EntryLaws.{entry_length_lem}
 use Rattle.card_attributes.specs.Table.{table, rows, name, presence, is_always}
 use Rattle.card_attributes.specs.declared.Attribute.{Attribute}
-use Rattle.card_attributes.specs.declared.Presence.{Presence}
-use Rattle.card_attributes.specs.declared.Presence.TheVariants.{Kept}
 use Rattle.card_attributes.proofs.TableLaws.{table_end}
 use Rattle.card_incoming.specs.Incoming.{value_at}
-use Rattle.card_stored.specs.Stored.{EngineValues, stored_value, is_stored_of, in_row, card_bytes}
+use Rattle.card_stored.specs.Stored.{EngineValues, stored_value, stored_card, is_stored_of, in_row, card_bytes}
 use Rattle.card_writer.specs.Written.{written_of}
-use Rattle.card_writer.proofs.ListLaws.{drop_replicate}
+use Rattle.std.proofs.lemmas.List.{drop-replicate}
 
--- put_entry
-pub entry_written : {d e f g v : List ℕ} {a b c r : ℕ} (n : ℕ) → Wrote d a (name_bytes n) e b → Wrote e b v f c → Wrote f c (59 ∷ []) g r → Wrote d a (entry_bytes n v) g r
+-- put_entry: a name is the low three of the four bytes of its number
+name_written : (n : ℕ) → n < 16777216 → drop 1 (to_be_bytes w32 n) ≡ name_bytes n
+name_written n h = grind arith
+
+pub entry_written : {d e f g v : List ℕ} {a b c r : ℕ} (n : ℕ) → n < 16777216 → (m : List ℕ) → m ≡ to_be_bytes w32 n
+    → Wrote d a (take 3 (drop 1 m)) e b → Wrote e b v f c → Wrote f c (59 ∷ []) g r → Wrote d a (entry_bytes n v) g r
 unfolding entry_bytes
-entry_written n p q s = then p (then q s)
-
--- has_entry
-pub kept_stored : (p : Presence) → p ≡ Kept → (t : Bool) → t ≡ (is_always p || t)
-kept_stored p e t = rw e
+entry_written n h m o p q s = then (rw (o, name_written n h) at p) (then q s)
 
 -- put_attribute
 module _ (card : List ℕ) (own : EngineValues) (a : Attribute) (b : Bounds) (w : value_at card b ≡ value_of (name a) card) (r : Bool) (e : r ≡ (is_always (presence a) || not (eqb b.start 0))) where
@@ -46,15 +45,15 @@ module _ (card : List ℕ) (own : EngineValues) (a : Attribute) (b : Bounds) (w 
   stored_of = e ∙ ap (λ (t : Bool). is_always (presence a) || t) found
 
   -- nothing is written,
-  pub left_out : not r ≡ true → (d : List ℕ) (at : ℕ) → Wrote d at (written_of card own a) d at
+  pub left_out : r ≡ false → (d : List ℕ) (at : ℕ) → Wrote d at (written_of card own a) d at
   unfolding written_of
-  left_out o d at = rw (← stored_of, not-true r o) (none d at)
+  left_out o d at = rw (← stored_of, o) (none d at)
 
   -- or the entry
-  module _ (o : not r ≡ false) (v : List ℕ) (p : v ≡ stored_value card own (name a)) where
+  module _ (o : r ≡ true) (v : List ℕ) (p : v ≡ stored_value card own (name a)) where
     entry_is : written_of card own a ≡ entry_bytes (name a) v
     unfolding written_of
-    entry_is = rw (← stored_of, not-false r o, p)
+    entry_is = rw (← stored_of, o, p)
 
     pub entry_fits : (at n : ℕ) → at + length (written_of card own a) ≤ n → at + length v + 4 ≤ n
     entry_fits at n h = omega (arith, ap length entry_is, entry_length_lem (name a) v)
@@ -82,30 +81,39 @@ module _ (card : List ℕ) (own : EngineValues) where
       go true = refl
       go false = refl
 
-  -- z is what comes of it all; what is written from the k-th attribute on is to be stored from `at` on
-  module _ (d z : List ℕ) (at k : ℕ) (inv : sets d at (written card own (drop k table)) ≡ z) where
-    pub all_written : rows ≤ k → d ≡ z
-    all_written h = ap (sets d at) (sym (none_left k h)) ∙ inv
+  -- what is left of the table, from the k-th attribute on, is what is left to write
+  pub record Left (d₀ d : List ℕ) (at k : ℕ) : Type 0 where
+    pub next : at + length (written card own (drop k table)) ≡ length (stored_card card own)
+    pub bytes : sets d at (written card own (drop k table)) ≡ sets d₀ 0 (stored_card card own)
 
-    pub entry_turn : (a : Attribute) → drop k table ≡ a ∷ drop (k + 1) table → (g : List ℕ) (b : ℕ) → Wrote d at (written_of card own a) g b → sets g b (written card own (drop (k + 1) table)) ≡ z
-    entry_turn a e g b w = rw (w.bytes, w.next, sets_append) (ap (sets d at) (sym (first_left k a e)) ∙ inv)
+  pub all_left : (d : List ℕ) → Left d d 0 0
+  unfolding written stored_card
+  all_left d = record { next = omega arith; bytes = refl }
 
-  -- m is the length of it all
-  module _ (at k m : ℕ) (inv : at + length (written card own (drop k table)) ≡ m) where
-    pub all_counted : rows ≤ k → at ≡ 0 + m
-    all_counted h = omega (arith, ap length (none_left k h))
+  module _ (d₀ d : List ℕ) (at k : ℕ) (inv : Left d₀ d at k) where
+    pub all_written : rows ≤ k → Wrote d₀ 0 (stored_card card own) d at
+    all_written h =
+        let e = none_left k h in
+        record {
+          next = omega (arith, inv.next, ap length e);
+          bytes = ap (sets d at) (sym e) ∙ inv.bytes;
+        }
 
     module _ (a : Attribute) (e : drop k table ≡ a ∷ drop (k + 1) table) where
       here : length (written card own (drop k table)) ≡ length (written_of card own a) + length (written card own (drop (k + 1) table))
       here = ap length (first_left k a e) ∙ length-append (written_of card own a) (written card own (drop (k + 1) table))
 
-      pub entry_room : (n n₀ : ℕ) → m ≤ n₀ → n ≡ n₀ → at + length (written_of card own a) ≤ n
-      entry_room n n₀ h l = omega (arith, here)
+      pub entry_room : (n : ℕ) → length (stored_card card own) ≤ n → at + length (written_of card own a) ≤ n
+      entry_room n h = omega (arith, here, inv.next)
 
-      pub count_turn : (d g : List ℕ) (b : ℕ) → Wrote d at (written_of card own a) g b → b + length (written card own (drop (k + 1) table)) ≡ m
-      count_turn d g b w = omega (arith, here, w.next)
+      pub entry_turn : (g : List ℕ) (b : ℕ) → Wrote d at (written_of card own a) g b → Left d₀ g b (k + 1)
+      entry_turn g b w =
+          record {
+            next = omega (arith, here, inv.next, w.next);
+            bytes = rw (w.bytes, w.next, sets_append) (ap (sets d at) (sym (first_left k a e)) ∙ inv.bytes);
+          }
 
 -- write_stored
 pub in_row_lem : (xs e : List ℕ) (b : ℕ) → Wrote (replicate 256 0) 0 xs e b → length xs ≤ 256 → e ≡ in_row xs
 unfolding in_row
-in_row_lem xs e b w h = from_start w (rw length-replicate h) ∙ ap (λ (l : List ℕ). xs ++ l) (drop_replicate (length xs) 256 0)
+in_row_lem xs e b w h = from_start w (rw length-replicate h) ∙ ap (λ (l : List ℕ). xs ++ l) (drop-replicate (length xs) 256 0)

@@ -8,7 +8,7 @@ use Rattle.text_decimal_writer.specs.Digits.{decimal_bytes}
 use Rattle.text_decimal_writer.proofs.RoundTrip.{written_short}
 use Rattle.field_values.specs.Values.{Value, number, string, octets, content_bytes, field_bytes, payload_bytes}
 
-content_length : (t : ℕ) (v : List ℕ) → length (content_bytes t v) ≡ length v + 2
+pub content_length : (t : ℕ) (v : List ℕ) → length (content_bytes t v) ≡ length v + 2
 unfolding content_bytes
 content_length t v = omega (arith, length-append v (126 ∷ []))
 
@@ -24,10 +24,6 @@ number_short n = omega (arith, content_length 78 (decimal_bytes n), written_shor
 -- twelve bytes are room enough for a number
 pub number_room : (a k v n : ℕ) → a + k ≤ n → 12 ≤ k → a + length (field_bytes (number v)) ≤ n
 number_room a k v n h l = omega (arith, number_short v)
-
--- put_number: its type, its digits and its end fit
-pub number_parts : (a v n : ℕ) → a + length (field_bytes (number v)) ≤ n → a + length (decimal_bytes v) + 2 ≤ n
-number_parts a v n h = omega (arith, content_length 78 (decimal_bytes v))
 
 -- a field, and fields after it
 pub payload_length : (v : Value) (vs : List Value) → length (payload_bytes (v ∷ vs)) ≡ length (field_bytes v) + length (payload_bytes vs)

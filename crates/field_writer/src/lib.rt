@@ -17,6 +17,7 @@ fn put_content(dst: &mut [u8], at: usize, kind: u8, v: &[u8]) -> usize
 }
 
 // Writes a number, and answers the place after it.
+#[tactic(auto, using(crate::proofs::Lengths::content_length))]
 pub fn put_number(dst: &mut [u8], at: usize, value: u32) -> usize
     requires { at + length (field_bytes (number value)) ≤ length dst.old }
     ensures writes { Writes dst at (field_bytes (number value)) result }

@@ -15,7 +15,7 @@ pub fn put_head(dst: &mut [u8], header: &[u8], status: &[u8]) -> usize
     ensures writes { Writes dst 0 (head_bytes header.now status.now) result }
     ensures short { result ≡ length header.now + length status.now }
 {
-    let a = byte_strings::put(dst, 0, &header[0..2]);
+    let a = byte_strings::put(dst, 0, &header[..2]);
     let b = byte_strings::put_byte(dst, a, b'!');
     let c = byte_strings::put(dst, b, &header[3..]);
     byte_strings::put(dst, c, status)

@@ -1,12 +1,16 @@
 -- What the steps of the builder come to.
-use mathlib.Core.Path.{◌≡◌}
-use mathlib.Core.List.{List, [], ◌∷◌, append_assoc}
-use Prim.Native.Nat.{ℕ, ◌+◌, ◌-◌, ◌≤◌}
+use mathlib.Core.Path.{◌≡◌, sym, ap, ◌∙◌}
+use mathlib.Core.List.{List, [], ◌∷◌, ◌++◌, append_assoc, map}
+use Prim.Native.Nat.{ℕ, ◌+◌, ◌-◌, ◌≤◌, ◌<◌}
+use native.Mathlib.Numerals.{add-one}
 use native.Mathlib.Omega.{arith}
-use lib.ListN.{length, take, drop}
+use lib.ListN.{length, get_or, take, drop, length-append, length-map}
+use lib.Seq.{sets, drop-cons}
+use Rattle.std.proofs.Common.{Bor}
+use Rattle.std.proofs.lemmas.List.{get_or-map}
 use Rattle.byte_strings.specs.Wrote.{Wrote}
 use Rattle.byte_pieces.specs.Pieces.{joined}
-use Rattle.byte_strings.proofs.Writes.{then, written_part}
+use Rattle.byte_strings.proofs.Writes.{then, sets_append, written_part}
 use Rattle.check_sums.specs.Checksum.{sum_digits}
 use Rattle.check_sums.specs.declared.Kind.TheVariants.{Modbus}
 use Rattle.record_writer.specs.Build.{record_bytes}
@@ -15,25 +19,57 @@ use Rattle.record_writer.specs.Build.{record_bytes}
 pub field_written : {d e f v : List ℕ} {a b c : ℕ} (x : ℕ) → Wrote d a v e b → Wrote e b (x ∷ []) f c → Wrote d a (joined x (v ∷ [])) f c
 field_written x p q = then p q
 
--- a field, and more behind it
-pub then_fields : {d e f : List ℕ} {a b c : ℕ} (x : ℕ) (v : List ℕ) (vs : List (List ℕ)) → Wrote d a (joined x (v ∷ [])) e b → Wrote e b (joined x vs) f c → Wrote d a (joined x (v ∷ vs)) f c
-then_fields x v vs p q = rw append_assoc at (then p q)
+-- put_fields: what is left of the fields, from the i-th on, is what is left to write
+pub record Left (x : ℕ) (fs : List (List ℕ)) (d₀ : List ℕ) (a₀ : ℕ) (d : List ℕ) (a i : ℕ) : Type 0 where
+  pub next : a + length (joined x (drop i fs)) ≡ a₀ + length (joined x fs)
+  pub bytes : sets d a (joined x (drop i fs)) ≡ sets d₀ a₀ (joined x fs)
 
--- put_fields4
-pub four_written : {d0 d1 d2 d3 d4 : List ℕ} {at o1 o2 o3 r : ℕ} (x : ℕ) (a b c d : List ℕ)
-    → Wrote d0 at (joined x (a ∷ [])) d1 o1 → Wrote d1 o1 (joined x (b ∷ [])) d2 o2 → Wrote d2 o2 (joined x (c ∷ [])) d3 o3 → Wrote d3 o3 (joined x (d ∷ [])) d4 r
-    → Wrote d0 at (joined x (a ∷ b ∷ c ∷ d ∷ [])) d4 r
-four_written x a b c d p q s t = then_fields x a (b ∷ c ∷ d ∷ []) p (then_fields x b (c ∷ d ∷ []) q (then_fields x c (d ∷ []) s t))
+module _ (x : ℕ) (bs : List (Bor (List ℕ))) (b : Bor (List ℕ)) (d₀ : List ℕ) (a₀ : ℕ) (d : List ℕ) (a i : ℕ) where
+  abbrev fs : List (List ℕ)
+  fs = map (λ f. f.now) bs
 
--- the check value of type and fields behind them makes the record
-pub record_closed : {d e f : List ℕ} {a b c : ℕ} (x : ℕ) (kind : List ℕ) (fs : List (List ℕ)) → Wrote d a (joined x (kind ∷ fs)) e b → b ≤ length d
-    → Wrote e b (sum_digits Modbus (take (b - a) (drop a e))) f c → Wrote d a (record_bytes kind x fs) f c
-unfolding record_bytes
-record_closed x kind fs p h q = then p (rw (written_part p h) at q)
+  abbrev v : List ℕ
+  v = (get_or bs i b).now
 
--- put_record4
-pub record_written : {d0 d1 d2 e : List ℕ} {at o to r : ℕ} (x : ℕ) (kind a b c d : List ℕ) → at + length kind + length a + length b + length c + length d + 9 ≤ length d0
-    → Wrote d0 at (joined x (kind ∷ [])) d1 o → o ≡ at + length kind + 1
-    → Wrote d1 o (joined x (a ∷ b ∷ c ∷ d ∷ [])) d2 to → to ≡ o + length a + length b + length c + length d + 4
-    → Wrote d2 to (sum_digits Modbus (take (to - at) (drop at d2))) e r → Wrote d0 at (record_bytes kind x (a ∷ b ∷ c ∷ d ∷ [])) e r
-record_written x kind a b c d h p m q n w = record_closed x kind (a ∷ b ∷ c ∷ d ∷ []) (then_fields x kind (a ∷ b ∷ c ∷ d ∷ []) p q) (omega arith) w
+  module _ (w : Left x fs d₀ a₀ d a i) (h : i < length bs) where
+    here : joined x (drop i fs) ≡ v ++ (x ∷ joined x (drop (i + 1) fs))
+    here =
+        let l : i < length fs = omega (arith, length-map bs (λ (f : Bor (List ℕ)). f.now)) in
+        let e : get_or fs i [] ≡ v = get_or-map (λ (f : Bor (List ℕ)). f.now) bs i b [] h in
+        rw (add-one, drop-cons fs i [] l, e)
+
+    pub left_room : (n : ℕ) → a₀ + length (joined x fs) ≤ n → a + length v + 1 ≤ n
+    left_room n k = let l = length-append v (x ∷ joined x (drop (i + 1) fs)) in let j = ap length here in let m = w.next in omega arith
+
+    pub left_turn : (e : List ℕ) (c : ℕ) → Wrote d a (joined x (v ∷ [])) e c → Left x fs d₀ a₀ e c (i + 1)
+    left_turn e c p =
+        let q : (v ++ (x ∷ [])) ++ joined x (drop (i + 1) fs) ≡ joined x (drop i fs) = append_assoc v (x ∷ []) (joined x (drop (i + 1) fs)) ∙ sym here in
+        record {
+          next = rw p.next (let l = length-append (v ++ (x ∷ [])) (joined x (drop (i + 1) fs)) in let j = ap length q in let m = w.next in omega arith);
+          bytes = rw (p.bytes, p.next, sets_append, q) w.bytes;
+        }
+
+-- put_record: the check value of type and fields behind them makes the record
+module _ (x : ℕ) (kind : List ℕ) (fs : List (List ℕ)) (d : List ℕ) (a : ℕ) (h : a + length (record_bytes kind x fs) ≤ length d) where
+  its_length : length (record_bytes kind x fs) ≡ length kind + 1 + length (joined x fs) + 4
+  unfolding record_bytes sum_digits
+  its_length =
+      let r = joined x (kind ∷ fs) in
+      rw length-append (let l = length-append kind (x ∷ joined x fs) in omega arith)
+
+  pub type_room : a + length kind + 1 ≤ length d
+  type_room = omega (arith, its_length)
+
+  module _ (e : List ℕ) (b : ℕ) (p : Wrote d a (joined x (kind ∷ [])) e b) (o : length e ≡ length d) where
+    pub fields_room : b + length (joined x fs) ≤ length e
+    fields_room = omega (arith, its_length, p.next, length-append kind (x ∷ []))
+
+    module _ (f : List ℕ) (c : ℕ) (q : Wrote e b (joined x fs) f c) (m : length f ≡ length e) where
+      pub sum_room : (a ≤ c) × (c + 4 ≤ length f)
+      sum_room = (omega (arith, p.next, q.next), omega (arith, its_length, p.next, q.next, length-append kind (x ∷ [])))
+
+      pub record_written : (g : List ℕ) (r : ℕ) → Wrote f c (sum_digits Modbus (take (c - a) (drop a f))) g r → Wrote d a (record_bytes kind x fs) g r
+      unfolding record_bytes
+      record_written g r w =
+          let t : Wrote d a (joined x (kind ∷ fs)) f c = rw append_assoc at (then p q) in
+          then t (rw (written_part t (omega (arith, sum_room.1))) at w)

@@ -12,7 +12,7 @@ use borrow.Author.Tests.{eq-eqb, le-leb, leb-true}
 use Rattle.byte_strings.specs.Strings.{all_of, is_not, same_bytes}
 use Rattle.byte_pieces.specs.Pieces.{pieces, is_ended, joined}
 use Rattle.byte_strings.proofs.Flags.{and_first, and_second, and_both}
-use Rattle.byte_strings.proofs.StringLaws.{all_append, all_front, same_self, same_equal}
+use Rattle.byte_strings.proofs.StringLaws.{all_append, same_self, same_equal}
 use Rattle.byte_pieces.proofs.PieceLaws.{pieces_cons}
 use Rattle.check_digits.specs.Hex.{hex_digit}
 use Rattle.check_sums.specs.Checksum.{sum_digits, ends_in_sum}
@@ -36,10 +36,6 @@ are_fields d (v ∷ vs) = is_field d v && are_fields d vs
 
 -- the four digits of a printable string are printable, and hold no delimiter that is no digit
 module _ (s : List ℕ) (e : are_all Printable s ≡ true) where
-  digits_printable : are_all Printable (sum_digits Modbus s) ≡ true
-  unfolding are_all hex_digit
-  digits_printable = digits_pass (is_of Printable) tt Modbus s (printable_bytes s e)
-
   digits_hexadecimal : are_all Hexadecimal (sum_digits Modbus s) ≡ true
   unfolding are_all hex_digit
   digits_hexadecimal = digits_pass (is_of Hexadecimal) tt Modbus s (printable_bytes s e)

@@ -2,7 +2,7 @@
 // "Records").
 #![tactic(auto)]
 
-ghost use Rattle.std.specs.Prelude.{◌≡◌, [], ◌∷◌, ◌+◌, ◌-◌, ◌≤◌, length, take, drop};
+ghost use Rattle.std.specs.Prelude.{◌≡◌, [], ◌∷◌, ◌+◌, ◌-◌, ◌≤◌, length, map, take, drop};
 ghost use Rattle.byte_strings.specs.Wrote.{Writes};
 ghost use Rattle.byte_pieces.specs.Pieces.{joined};
 ghost use Rattle.check_sums.specs.Checksum.{sum_digits};
@@ -30,48 +30,31 @@ fn close_record(dst: &mut [u8], from: usize, to: usize) -> usize
     check_sums::put_sum(Kind::Modbus, dst, from, to)
 }
 
-// Writes four fields, each with its delimiter, and answers the place after them.
-fn put_fields4(
-    dst: &mut [u8],
-    at: usize,
-    delimiter: u8,
-    a: &[u8],
-    b: &[u8],
-    c: &[u8],
-    d: &[u8],
-) -> usize
-    requires { at + length a.now + length b.now + length c.now + length d.now + 4 ≤ length dst.old }
-    ensures writes { Writes dst at
-        (joined delimiter (a.now ∷ b.now ∷ c.now ∷ d.now ∷ [])) result }
-    ensures short { result ≡ at + length a.now + length b.now + length c.now
-        + length d.now + 4 }
+// Writes fields, each with its delimiter, and answers the place after them.
+fn put_fields(dst: &mut [u8], at: usize, delimiter: u8, fields: &[&[u8]]) -> usize
+    requires { at + length (joined delimiter (map (λ f. f.now) fields.now)) ≤ length dst.old }
+    ensures { Writes dst at (joined delimiter (map (λ f. f.now) fields.now)) result }
 {
-    let o1 = put_field(dst, at, a, delimiter);
-    let o2 = put_field(dst, o1, b, delimiter);
-    let o3 = put_field(dst, o2, c, delimiter);
-    put_field(dst, o3, d, delimiter)
+    let mut at = at;
+    for field in fields {
+        at = put_field(dst, at, field, delimiter);
+    }
+    at
 }
 
-// Writes a record of four fields, and answers the place after it.
-pub fn put_record4(
+// Writes a record of a type and fields, and answers the place after it.
+pub fn put_record(
     dst: &mut [u8],
     at: usize,
     rectype: &[u8],
     delimiter: u8,
-    first: &[u8],
-    second: &[u8],
-    third: &[u8],
-    fourth: &[u8],
+    fields: &[&[u8]],
 ) -> usize
-    requires { at + length rectype.now + length first.now + length second.now + length third.now
-        + length fourth.now + 9 ≤ length dst.old }
-    ensures writes { Writes dst at
-        (record_bytes rectype.now delimiter
-        (first.now ∷ second.now ∷ third.now ∷ fourth.now ∷ [])) result }
-    ensures short { result ≡ at + length rectype.now + length first.now
-        + length second.now + length third.now + length fourth.now + 9 }
+    requires { at + length (record_bytes rectype.now delimiter (map (λ f. f.now) fields.now))
+        ≤ length dst.old }
+    ensures { Writes dst at (record_bytes rectype.now delimiter (map (λ f. f.now) fields.now)) result }
 {
     let o = put_field(dst, at, rectype, delimiter);
-    let to = put_fields4(dst, o, delimiter, first, second, third, fourth);
+    let to = put_fields(dst, o, delimiter, fields);
     close_record(dst, at, to)
 }

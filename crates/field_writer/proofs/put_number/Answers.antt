@@ -1,0 +1,6 @@
+-- Type, digits, end.
+use Rattle.field_writer.proofs.WriteLaws.{content_written}
+use Rattle.field_writer.proofs.put_number.Goals as goal
+
+pub returns-clause-writes : goal.returns-clause-writes
+returns-clause-writes c = search content_written
