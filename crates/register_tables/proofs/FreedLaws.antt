@@ -1,79 +1,48 @@
--- The cards and marks that are cleared, turn by turn; and that the rows with them are those of SM?KX, SM?KF and GL?RS.
-use mathlib.Core.Path.{◌≡◌, refl, sym, ap, ◌∙◌}
+-- The cards and marks that are cleared; and that the rows with them are those of SM?KX, SM?KF and GL?RS.
+use mathlib.Core.Path.{◌≡◌, refl, ap}
 use mathlib.Core.Bool.{Bool, true, false, cond}
-use mathlib.Core.List.{List, [], ◌∷◌, ◌++◌, map, append_assoc}
+use mathlib.Core.List.{List, [], ◌∷◌, ◌++◌, map}
 use Prim.Native.Nat.{ℕ, zero, suc, ◌+◌, ◌≤◌, ◌<◌}
 use native.Mathlib.Numerals.{add-one}
 use native.Mathlib.Omega.{arith}
 use lib.Dec.{eqb}
-use lib.ListN.{length, get_or, set, take, drop, replicate, take-append-drop, length-set}
-use lib.Seq.{take-suc-set, drop-set-lt}
-use borrow.Author.Tests.{eq-eqb, ne_eqb}
+use lib.ListN.{length, get_or, set, take, drop, replicate}
 use Rattle.row_types.specs.Lists.{mapped}
 use Rattle.row_types.specs.Registers.{closed_mark, free_register, without_slot, is_under, closed_row, closed_under}
 use Rattle.row_types.specs.declared.RegisterRow.{RegisterRow}
-use Rattle.row_types.proofs.LoopLaws.{rows_cons, rows_end, list_cons, Sweeping, sweep_turn}
 use Rattle.row_index.specs.Found.{is_the, AreOwnedBy}
 use Rattle.row_index.specs.Lent.{marked_row, marked_rows}
 use Rattle.register_tables.specs.Freed.{cleared, freed, closed, closing}
 
--- free_one: l are the cards, i the place
-set_same : {A : Type 0} (l : List A) (i : ℕ) (d : A) → set l i (get_or l i d) ≡ l
-set_same [] i d = refl
-set_same (x ∷ xs) zero d = refl
-set_same {A} (x ∷ xs) (suc i) d = ap (λ (z : List A). x ∷ z) (set_same xs i d)
+-- clear_owned, at a turn
+cleared_more : {A : Type 0} (x : A) (k : ℕ) (os : List ℕ) (l : List A) (i : ℕ) → i < length os → length os ≤ length l
+    → cleared x k (take (suc i) os) l ≡ cond (eqb (get_or os i 0) k) (set (cleared x k (take i os) l) i x) (cleared x k (take i os) l)
+cleared_more x k [] l i h r = absurd (omega arith)
+cleared_more x k (o ∷ os) [] i h r = absurd (omega arith)
+cleared_more {A} x k (o ∷ os) (y ∷ ys) zero h r = go (eqb o k)
+  where
+    go : (b : Bool) → cond b x y ∷ ys ≡ cond b (x ∷ ys) (y ∷ ys)
+    go true = refl
+    go false = refl
+cleared_more {A} x k (o ∷ os) (y ∷ ys) (suc i) h r = rw (cleared_more x k os ys i (omega arith) (omega arith)) (go (eqb (get_or os i 0) k))
+  where
+    c : A
+    c = cond (eqb o k) x y
 
-module _ (l : List (List ℕ)) (i owner slot : ℕ) where
-  pub one_freed : owner ≡ slot → set l i (replicate 256 0) ≡ set l i (cond (eqb owner slot) (replicate 256 0) (get_or l i []))
-  one_freed e = rw (eq-eqb owner slot e)
+    go : (b : Bool) → c ∷ cond b (set (cleared x k (take i os) ys) i x) (cleared x k (take i os) ys) ≡ cond b (c ∷ set (cleared x k (take i os) ys) i x) (c ∷ cleared x k (take i os) ys)
+    go true = refl
+    go false = refl
 
-  pub one_kept : (owner ≡ slot → ⊥) → l ≡ set l i (cond (eqb owner slot) (replicate 256 0) (get_or l i []))
-  one_kept o = rw (ne_eqb owner slot o) (sym (set_same l i []))
-
--- mark_left
-module _ (mark owner slot : ℕ) where
-  pub mark_closed : owner ≡ slot → closed_mark ≡ cond (eqb owner slot) closed_mark mark
-  mark_closed e = rw (eq-eqb owner slot e)
-
-  pub mark_kept : (owner ≡ slot → ⊥) → mark ≡ cond (eqb owner slot) closed_mark mark
-  mark_kept o = rw (ne_eqb owner slot o)
-
--- what is cleared, turn by turn: u is the list so far, l what it was, os the owners, x what stands at the places of the slot
-pub record Clearing {A : Type 0} (x : A) (k : ℕ) (os : List ℕ) (l u : List A) (i : ℕ) : Type 0 where
-  pub left : take i u ++ cleared x k (drop i os) (drop i u) ≡ cleared x k os l
-  pub places : length u ≡ length l
-
-pub clearing_starts : {A : Type 0} (x : A) (k : ℕ) (os : List ℕ) (l : List A) → Clearing x k os l l 0
-clearing_starts x k os l = record { left = refl; places = refl }
-
-module _ {A : Type 0} (d x : A) (k m : ℕ) (owners : List ℕ) (l u : List A) (i : ℕ) (w : Clearing x k (take m owners) l u i) (z : length owners ≡ 32) (r : m ≤ 32) where
-  pub clearing_turn : i < m → m ≤ length l → (o : ℕ) → o ≡ get_or owners i 0 → (v : List A) → v ≡ set u i (cond (eqb o k) x (get_or u i d)) → Clearing x k (take m owners) l v (i + 1)
-  clearing_turn h g o e v p =
-      let y = w.places in
-      let q : i < length u = omega arith in
-      let c = cond (eqb o k) x (get_or u i d) in
-      let a : drop i (take m owners) ≡ o ∷ drop (i + 1) (take m owners) = rows_cons 0 owners m i 32 z r h ∙ ap (λ (x : ℕ). x ∷ drop (i + 1) (take m owners)) (sym e) in
-      let b : drop i u ≡ get_or u i d ∷ drop (i + 1) u = list_cons d u i q in
-      let s : take (suc i) (set u i c) ≡ take i u ++ (c ∷ []) = take-suc-set u i c q in
-      let t : drop (suc i) (set u i c) ≡ drop (suc i) u = drop-set-lt (suc i) u i c (omega arith) in
-      let f : take i u ++ (c ∷ cleared x k (drop (i + 1) (take m owners)) (drop (i + 1) u)) ≡ cleared x k (take m owners) l = rw (a, b) at w.left in
-      record {
-        left = rw (p, add-one, s, t, append_assoc) (rw add-one at f);
-        places = rw p (length-set u i c ∙ y);
-      }
-
-  pub clearing_ends : m ≤ i → u ≡ cleared x k (take m owners) l
-  clearing_ends h = let e : drop i (take m owners) ≡ [] = rows_end owners m i 32 z r h in sym (take-append-drop i u) ∙ (rw e at w.left)
-
--- close_owned: the mark that is left at a place
-pub mark_turn : (k m : ℕ) (owners l u : List ℕ) (i : ℕ) → Clearing closed_mark k (take m owners) l u i → length owners ≡ 32 → m ≤ 32 → length l ≡ 32 → i < m
-    → (v : ℕ) → v ≡ cond (eqb (get_or owners i 0) k) closed_mark (get_or u i 0) → Clearing closed_mark k (take m owners) l (set u i v) (i + 1)
-mark_turn k m owners l u i w z r y h v e = clearing_turn 0 closed_mark k m owners l u i w z r h (omega arith) (get_or owners i 0) refl (set u i v) (ap (set u i) e)
+pub cleared_turn : {A : Type 0} (x : A) (k : ℕ) (os : List ℕ) (l : List A) (i : ℕ) → i < length os → length os ≤ length l
+    → cleared x k (take (i + 1) os) l ≡ cond (eqb (get_or os i 0) k) (set (cleared x k (take i os) l) i x) (cleared x k (take i os) l)
+cleared_turn x k os l i h r = rw add-one (cleared_more x k os l i h r)
 
 -- close_all
-pub all_turn : (m : ℕ) (l u : List ℕ) (i : ℕ) → Sweeping closing m 32 l u i → m ≤ 32 → i < m → Sweeping closing m 32 l (set u i 0) (i + 1)
+pub all_closed : (n : ℕ) (l : List ℕ) → n ≤ length l → mapped n closing l ≡ replicate n closed_mark ++ drop n l
 unfolding closing
-all_turn m l u i w r h = sweep_turn closing m 32 l u i w r 0 h 0 refl
+all_closed zero l h = refl
+all_closed (suc n) [] h = absurd (omega arith)
+all_closed (suc n) (x ∷ xs) h = ap (λ (z : List ℕ). closed_mark ∷ z) (all_closed n xs (omega arith))
 
 -- THE LAWS: where the owners tell the registers under s, the rows that are left are those of SM?KX,
 module _ (k : ℕ) (s : List ℕ) where

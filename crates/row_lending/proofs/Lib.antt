@@ -6,5 +6,3 @@ pub mod OverlayLaws
 -- tables of any type of rows, and a table that a local holds, lent
 pub mod TableTypes
 pub mod Loan
--- rows that are free
-pub mod FreeLaws

@@ -4,6 +4,7 @@
 --     over-all         after as many turns as there are of both it is `each_with`
 --     turned           one more turn of a loop that puts them
 --     turned_all       and what there is after as many turns as there are of both
+--     all_turned       the same of a loop over the first cells alone, as many as there are of both
 --     laid             where a row itself is put in the place of each, that is p laid over q
 --     laid_as          and where what is made of a row is
 -- Assumes nothing.
@@ -14,6 +15,7 @@ use native.Mathlib.Numerals.{add-one}
 use native.Mathlib.Omega.{arith}
 use mathlib.Core.List.{List, [], ◌∷◌, map}
 use lib.ListN.{length, get_or, take, set, length-set}
+use lib.Seq.{take_all}
 use Rattle.row_lending.specs.Tables.{overlay, each_with}
 
 module _ {R C : Type 0} (f : R → C → R) (d : R) (e : C) where
@@ -49,6 +51,9 @@ module _ {R C : Type 0} (f : R → C → R) (d : R) (e : C) where
 
   pub turned_all : (xs q : List R) (p : List C) (i n : ℕ) → xs ≡ each_with f q (take i p) → i ≤ n → n ≤ i → n ≡ min (length p) (length q) → xs ≡ each_with f q p
   turned_all xs q p i n h l m k = h ∙ ap (λ (k : ℕ). each_with f q (take k p)) (omega (arith, k)) ∙ all_put q p
+
+pub all_turned : {R C : Type 0} (f : R → C → R) (d : R) (e : C) (xs q : List R) (p : List C) (i n : ℕ) → xs ≡ each_with f q (take i (take n p)) → length (take n p) ≤ i → n ≡ min (length p) (length q) → xs ≡ each_with f q p
+all_turned f d e xs q p i n h l few = turned_all f d e xs q p n n (h ∙ ap (each_with f q) (take_all i (take n p) l)) (omega arith) (omega arith) few
 
 pub laid : {X : Type 0} (q p : List X) → each_with (λ _ x. x) q p ≡ overlay p q
 laid [] [] = refl

@@ -22,68 +22,48 @@ fn is_zero(bytes: &[u8]) -> bool
 }
 
 // Whether every byte of the row is zero.
+#[tactic(auto, unfolding(row_types::specs::Slots::is_zero_slot))]
 pub fn is_zero_slot(row: SlotRow) -> bool
     ensures { result ≡ is_zero_slot row }
 {
-    if row.state != 0 {
-        return false;
-    }
-    if !is_zero(&row.kmcid) {
-        return false;
-    }
-    if !is_zero(&row.fingerprint) {
-        return false;
-    }
-    is_zero(&row.tvp)
+    row.state == 0 && is_zero(&row.kmcid) && is_zero(&row.fingerprint) && is_zero(&row.tvp)
 }
 
 // Whether the bytes are a KMCID with zeros after it.
+#[tactic(auto, unfolding(row_types::specs::Lists::trimmed))]
 fn is_kmcid(bytes: &[u8]) -> bool
     ensures { result ≡ (is_identifier (trimmed bytes.now)
         && are_all Zero (drop (run (is_not 0) bytes.now) bytes.now)) }
 {
     let end = byte_pieces::piece_end(bytes, 0, 0);
-    if !text_classes::is_identifier(&bytes[0..end]) {
-        return false;
-    }
-    is_zero(&bytes[end..])
+    text_classes::is_identifier(&bytes[..end]) && is_zero(&bytes[end..])
 }
 
 // Whether the bytes are the TVP of a slot not free: a timestamp where it is PENDING, and else zero.
 fn is_tvp(pending: bool, bytes: &[u8]) -> bool
     ensures { result ≡ cond pending (is_timestamp bytes.now) (are_all Zero bytes.now) }
 {
-    if !pending {
-        return is_zero(bytes);
+    if pending {
+        text_forms::in_form(Form::Timestamp, bytes)
+    } else {
+        is_zero(bytes)
     }
-    text_forms::in_form(Form::Timestamp, bytes)
 }
 
 // Whether the fields of a slot not free are in form.
+#[tactic(auto, unfolding(row_types::specs::Slots::is_filled_slot))]
 fn is_filled_slot(row: SlotRow) -> bool
     ensures { result ≡ is_filled_slot row }
 {
-    if !is_kmcid(&row.kmcid) {
-        return false;
-    }
-    if !text_forms::in_form(Form::Hex(16), &row.fingerprint) {
-        return false;
-    }
-    is_tvp(slot_tests::has_state(row, SlotState::Pending), &row.tvp)
+    is_kmcid(&row.kmcid)
+        && text_forms::in_form(Form::Hex(16), &row.fingerprint)
+        && is_tvp(slot_tests::has_state(row, SlotState::Pending), &row.tvp)
 }
 
 // Whether the row is sound by itself.
+#[tactic(auto, unfolding(row_types::specs::Slots::is_slot_sound))]
 pub fn is_slot_sound(row: SlotRow) -> bool
     ensures { result ≡ is_slot_sound row }
 {
-    if is_zero_slot(row) {
-        return true;
-    }
-    if row.state < 1 {
-        return false;
-    }
-    if 3 < row.state {
-        return false;
-    }
-    is_filled_slot(row)
+    is_zero_slot(row) || matches!(row.state, 1..=3) && is_filled_slot(row)
 }

@@ -1,2 +1,1 @@
 pub mod PadLaws
-pub mod SlotLaws

@@ -1,7 +1,7 @@
 -- Bytes in a space of zeros.
-use mathlib.Core.Path.{◌≡◌, refl, ap, ◌∙◌}
+use mathlib.Core.Path.{◌≡◌, refl, sym, ap, ◌∙◌}
 use mathlib.Core.List.{List, [], ◌∷◌, ◌++◌}
-use Prim.Native.Nat.{ℕ, zero, suc, ◌≤◌}
+use Prim.Native.Nat.{ℕ, zero, suc, ◌≤◌, min}
 use native.Mathlib.Omega.{arith}
 use lib.ListN.{length, take, drop, replicate, length-replicate}
 use Rattle.byte_strings.specs.Wrote.{Wrote}
@@ -26,10 +26,13 @@ in_zeros n s v e b p h w =
     ∙ ap (λ (l : List ℕ). l ++ drop (length l) (replicate n 0)) p
     ∙ front_filled n n s (omega arith)
 
--- in_forty, in_sixteen: v is the front of s
-module _ (s v e : List ℕ) (b : ℕ) where
-  pub forty : v ≡ take 40 s → length v ≤ 40 → Wrote (replicate 40 0) 0 v e b → e ≡ padded 40 s
-  forty = in_zeros 40 s v e b
+-- in_space: as many bytes as fit, and zeros after them
+front_zeros : (n m k : ℕ) (s : List ℕ) → k ≡ min (length s) n → n ≤ m → take n (s ++ replicate m 0) ≡ take k s ++ drop k (replicate n 0)
+front_zeros zero m k s e h = let z : k ≡ 0 = omega arith in rw z refl
+front_zeros (suc n) m k [] e h = let z : k ≡ 0 = omega arith in rw z (sym (zeros_front (suc n) m h))
+front_zeros (suc n) m zero (b ∷ bs) e h = absurd (omega arith)
+front_zeros (suc n) m (suc k) (b ∷ bs) e h = ap (λ (l : List ℕ). b ∷ l) (front_zeros n m k bs (omega arith) (omega arith))
 
-  pub sixteen : v ≡ take 16 s → length v ≤ 16 → Wrote (replicate 16 0) 0 v e b → e ≡ padded 16 s
-  sixteen = in_zeros 16 s v e b
+pub padded_front : (n : ℕ) (s : List ℕ) → padded n s ≡ take (min (length s) n) s ++ drop (min (length s) n) (replicate n 0)
+unfolding padded
+padded_front n s = front_zeros n n (min (length s) n) s refl (omega arith)

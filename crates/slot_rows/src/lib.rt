@@ -8,47 +8,39 @@ ghost use Rattle.row_types.specs.Slots.{free_slot, filled_slot, moved_slot, rese
 use row_types::{SlotRow, SlotState};
 
 // A freed row.
+#[tactic(auto, unfolding(row_types::specs::Slots::free_slot))]
 pub fn free_slot() -> SlotRow
     ensures { result ≡ free_slot }
 {
-    let kmcid = [0u8; 40];
-    let fingerprint = [0u8; 16];
-    let tvp = [0u8; 16];
     SlotRow {
         state: 0,
-        kmcid,
-        fingerprint,
-        tvp,
+        kmcid: [0; 40],
+        fingerprint: [0; 16],
+        tvp: [0; 16],
     }
 }
 
-// What fits of the bytes into 40 bytes, with zeros after it.
-fn in_forty(bytes: &[u8]) -> [u8; 40]
-    ensures { result ≡ padded 40 bytes.now }
+// What fits of the bytes into N bytes, with zeros after it.
+#[tactic(auto, using(crate::proofs::PadLaws::padded_front))]
+pub fn in_space<const N: usize>(bytes: &[u8]) -> [u8; N]
+    ensures { result ≡ padded N bytes.now }
 {
-    let mut space = [0u8; 40];
-    byte_strings::put(&mut space, 0, byte_strings::front(bytes, 40));
-    space
-}
-
-// What fits of the bytes into 16 bytes, with zeros after it.
-fn in_sixteen(bytes: &[u8]) -> [u8; 16]
-    ensures { result ≡ padded 16 bytes.now }
-{
-    let mut space = [0u8; 16];
-    byte_strings::put(&mut space, 0, byte_strings::front(bytes, 16));
+    let count = bytes.len().min(N);
+    let mut space = [0; N];
+    space[..count].copy_from_slice(&bytes[..count]);
     space
 }
 
 // A row in a state, with a KMCID, a fingerprint and a TVP; what does not fit is left out.
+#[tactic(auto, unfolding(row_types::specs::Slots::filled_slot))]
 pub fn filled_slot(state: SlotState, kmcid: &[u8], fingerprint: &[u8], tvp: &[u8]) -> SlotRow
     ensures { result ≡ filled_slot state kmcid.now fingerprint.now tvp.now }
 {
     SlotRow {
         state: slot_tests::state_number(state),
-        kmcid: in_forty(kmcid),
-        fingerprint: in_sixteen(fingerprint),
-        tvp: in_sixteen(tvp),
+        kmcid: in_space(kmcid),
+        fingerprint: in_space(fingerprint),
+        tvp: in_space(tvp),
     }
 }
 
@@ -56,20 +48,19 @@ pub fn filled_slot(state: SlotState, kmcid: &[u8], fingerprint: &[u8], tvp: &[u8
 pub fn moved_slot(state: SlotState, row: SlotRow) -> SlotRow
     ensures { result ≡ moved_slot state row }
 {
-    let kmcid = row.kmcid;
-    let fingerprint = row.fingerprint;
-    filled_slot(state, &kmcid, &fingerprint, b"")
+    filled_slot(state, &row.kmcid, &row.fingerprint, b"")
 }
 
 // The row after GL?RS.
+#[tactic(auto, unfolding(row_types::specs::Slots::reset_slot))]
 pub fn reset_slot(row: SlotRow) -> SlotRow
     ensures { result ≡ reset_slot row }
 {
-    if slot_tests::has_state(row, SlotState::Pending) {
-        return moved_slot(SlotState::Idle, row);
+    if slot_tests::has_state(row, SlotState::Pending)
+        || slot_tests::has_state(row, SlotState::Loading)
+    {
+        moved_slot(SlotState::Idle, row)
+    } else {
+        row
     }
-    if slot_tests::has_state(row, SlotState::Loading) {
-        return moved_slot(SlotState::Idle, row);
-    }
-    row
 }

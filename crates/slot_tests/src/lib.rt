@@ -11,12 +11,7 @@ use row_types::{SlotRow, SlotState};
 pub fn state_number(state: SlotState) -> u8
     ensures { result ≡ state_number state }
 {
-    match state {
-        SlotState::Free => 0,
-        SlotState::Pending => 1,
-        SlotState::Loading => 2,
-        SlotState::Idle => 3,
-    }
+    state as u8
 }
 
 // Whether the row is in a state.
@@ -27,19 +22,17 @@ pub fn has_state(row: SlotRow, state: SlotState) -> bool
 }
 
 // What stands before the first zero.
-pub fn trimmed<'a>(bytes: &'a [u8]) -> &'a [u8]
+#[tactic(auto, unfolding(row_types::specs::Lists::trimmed))]
+pub fn trimmed(bytes: &[u8]) -> &[u8]
     ensures { result.now ≡ trimmed bytes.now }
 {
-    let first = byte_pieces::piece_end(bytes, 0, 0);
-    &bytes[0..first]
+    &bytes[..byte_pieces::piece_end(bytes, 0, 0)]
 }
 
 // Whether the row is not free and keeps the KMCID.
+#[tactic(auto, unfolding(row_types::specs::Slots::is_named))]
 pub fn is_named(row: SlotRow, name: &[u8]) -> bool
     ensures { result ≡ is_named name.now row }
 {
-    if has_state(row, SlotState::Free) {
-        return false;
-    }
-    byte_strings::same_bytes(trimmed(&row.kmcid), name)
+    !has_state(row, SlotState::Free) && byte_strings::same_bytes(trimmed(&row.kmcid), name)
 }
