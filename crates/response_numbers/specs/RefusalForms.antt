@@ -14,7 +14,7 @@ header_for n = cond (leb n 4) none (cond (leb n 7) (some general) (some own))
 
 abbrev pub status_in : ReplyForm → List ℕ
 status_in Nothing = []
-status_in (Status a b) = a ∷ b ∷ []
+status_in (Status s) = s
 status_in Numbered = extended
 status_in (Module d) = extended
 
@@ -25,7 +25,7 @@ sm d = string (text "SM.3B." ++ (d ∷ [])) ∷ []
 -- the fields of the refusal with number n
 abbrev pub fields_in : ReplyForm → ℕ → List Value
 fields_in Nothing n = []
-fields_in (Status a b) n = []
+fields_in (Status s) n = []
 fields_in Numbered n = km n
 fields_in (Module d) n = sm d
 

@@ -13,7 +13,7 @@ use engine::{Outcome, Refusal};
 #[derive(Clone, Copy)]
 pub enum ReplyForm {
     Nothing,
-    Status(u8, u8),
+    Status([u8; 2]),
     Numbered,
     Module(u8),
 }
@@ -32,13 +32,13 @@ pub fn entry_of(reason: Refusal) -> Entry
         Refusal::UnsoundRows => Entry(3, ReplyForm::Nothing),
         Refusal::BadSupplement => Entry(4, ReplyForm::Nothing),
         Refusal::BadFrame => Entry(5, ReplyForm::Numbered),
-        Refusal::BadChecksum => Entry(6, ReplyForm::Status(b'2', b'0')),
-        Refusal::UnknownHeader => Entry(7, ReplyForm::Status(b'2', b'1')),
+        Refusal::BadChecksum => Entry(6, ReplyForm::Status(*b"20")),
+        Refusal::UnknownHeader => Entry(7, ReplyForm::Status(*b"21")),
         Refusal::BadFields => Entry(8, ReplyForm::Numbered),
         Refusal::BadRecord => Entry(9, ReplyForm::Numbered),
         Refusal::BadForm => Entry(10, ReplyForm::Numbered),
         Refusal::Expired => Entry(11, ReplyForm::Numbered),
-        Refusal::UnknownSlot => Entry(12, ReplyForm::Status(b'2', b'7')),
+        Refusal::UnknownSlot => Entry(12, ReplyForm::Status(*b"27")),
         Refusal::NoFreeSlot => Entry(13, ReplyForm::Numbered),
         Refusal::WrongState => Entry(14, ReplyForm::Numbered),
         Refusal::OtherModule => Entry(15, ReplyForm::Module(b'6')),
@@ -46,17 +46,16 @@ pub fn entry_of(reason: Refusal) -> Entry
         Refusal::OtherTvp => Entry(17, ReplyForm::Module(b'8')),
         Refusal::OtherTag => Entry(18, ReplyForm::Module(b'9')),
         Refusal::CheckFailed => Entry(19, ReplyForm::Numbered),
-        Refusal::NoFreeRegister => Entry(20, ReplyForm::Status(b'2', b'8')),
-        Refusal::EmptyRegister => Entry(21, ReplyForm::Status(b'2', b'2')),
+        Refusal::NoFreeRegister => Entry(20, ReplyForm::Status(*b"28")),
+        Refusal::EmptyRegister => Entry(21, ReplyForm::Status(*b"22")),
     }
 }
 
 // The number of a refusal.
-fn refusal_number(reason: Refusal) -> u8
+pub fn refusal_number(reason: Refusal) -> u8
     ensures { result ≡ (refusal reason).number }
 {
-    let e = entry_of(reason);
-    e.0
+    entry_of(reason).0
 }
 
 // The number of an outcome: 0 where the request is accepted.
@@ -64,8 +63,7 @@ pub fn outcome_number(outcome: Outcome) -> u8
     ensures { result ≡ outcome_number outcome }
 {
     match outcome {
-        Outcome::Accepted(_) => 0,
-        Outcome::Done => 0,
-        Outcome::Refused(r) => refusal_number(r),
+        Outcome::Accepted(_) | Outcome::Done => 0,
+        Outcome::Refused(reason) => refusal_number(reason),
     }
 }

@@ -12,7 +12,7 @@ ghost use Rattle.response_numbers.specs.RefusalForms.{status_in, fields_in, sm};
 ghost use Rattle.response_refusals.specs.RefusalForms.{CanRefuse};
 
 use engine::Refusal;
-use response_numbers::ReplyForm;
+use response_numbers::{Entry, ReplyForm};
 
 // KM. and a number in two digits.
 fn km_text(number: u8) -> [u8; 5]
@@ -44,10 +44,7 @@ fn put_status(dst: &mut [u8], header: &[u8], form: ReplyForm) -> usize
 {
     match form {
         ReplyForm::Nothing => message_writer::put_head(dst, header, b""),
-        ReplyForm::Status(a, b) => {
-            let status = [a, b];
-            message_writer::put_head(dst, header, &status)
-        }
+        ReplyForm::Status(status) => message_writer::put_head(dst, header, &status),
         ReplyForm::Numbered | ReplyForm::Module(_) => message_writer::put_head(dst, header, b"EE"),
     }
 }
@@ -59,15 +56,9 @@ fn put_reason(dst: &mut [u8], at: usize, form: ReplyForm, number: u8) -> usize
     ensures short { result ≤ at + 9 }
 {
     match form {
-        ReplyForm::Nothing | ReplyForm::Status(_, _) => at,
-        ReplyForm::Numbered => {
-            let text = km_text(number);
-            field_writer::put_string(dst, at, &text)
-        }
-        ReplyForm::Module(digit) => {
-            let text = sm_text(digit);
-            field_writer::put_string(dst, at, &text)
-        }
+        ReplyForm::Nothing | ReplyForm::Status(_) => at,
+        ReplyForm::Numbered => field_writer::put_string(dst, at, &km_text(number)),
+        ReplyForm::Module(digit) => field_writer::put_string(dst, at, &sm_text(digit)),
     }
 }
 
@@ -92,14 +83,10 @@ pub fn refuse(response: &mut [u8], request: &[u8], reason: Refusal) -> usize
         (response_of (refusal_reply request.now reason)) result }
     ensures fits { result ≤ length response.old }
 {
-    let entry = response_numbers::entry_of(reason);
-    let number = entry.0;
-    let form = entry.1;
-    if number <= 4 {
-        return 0;
+    let Entry(number, form) = response_numbers::entry_of(reason);
+    match number {
+        0..=4 => 0,
+        5..=7 => write_refusal(response, b"GL!ER", form, number),
+        _ => write_refusal(response, message_frames::header(request), form, number),
     }
-    if number <= 7 {
-        return write_refusal(response, b"GL!ER", form, number);
-    }
-    write_refusal(response, message_frames::header(request), form, number)
 }

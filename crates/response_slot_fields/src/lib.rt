@@ -2,7 +2,7 @@
 // fingerprint of a key.
 #![tactic(auto)]
 
-ghost use Rattle.std.specs.Prelude.{cond, [], ◌∷◌, ◌+◌, ◌≤◌, length};
+ghost use Rattle.std.specs.Prelude.{[], ◌∷◌, ◌+◌, ◌≤◌, length};
 ghost use Rattle.byte_strings.specs.Wrote.{Writes};
 ghost use Rattle.field_values.specs.Values.{string, octets, field_bytes, payload_bytes};
 ghost use Rattle.row_types.specs.Slots.{kmcid_of};
@@ -16,8 +16,7 @@ pub fn put_kmcid(dst: &mut [u8], at: usize, row: SlotRow) -> usize
     ensures writes { Writes dst at (field_bytes (string (kmcid_of row))) result }
     ensures short { result ≤ at + 42 }
 {
-    let kmcid = row.kmcid;
-    field_writer::put_string(dst, at, slot_tests::trimmed(&kmcid))
+    field_writer::put_string(dst, at, slot_tests::trimmed(&row.kmcid))
 }
 
 // Writes the state, and answers the place after it. An IDLE slot is ACTIVE in the words of 001.
@@ -27,26 +26,20 @@ pub fn put_state(dst: &mut [u8], at: usize, row: SlotRow) -> usize
     ensures short { result ≤ at + 9 }
 {
     if slot_tests::has_state(row, SlotState::Pending) {
-        return field_writer::put_string(dst, at, b"PENDING");
+        field_writer::put_string(dst, at, b"PENDING")
+    } else if slot_tests::has_state(row, SlotState::Loading) {
+        field_writer::put_string(dst, at, b"LOADING")
+    } else {
+        field_writer::put_string(dst, at, b"ACTIVE")
     }
-    if slot_tests::has_state(row, SlotState::Loading) {
-        return field_writer::put_string(dst, at, b"LOADING");
-    }
-    field_writer::put_string(dst, at, b"ACTIVE")
 }
 
-// Writes TVP and fingerprint, both empty where the slot does not hold them, and answers the place after them.
-pub fn put_key(dst: &mut [u8], at: usize, held: bool, tvp: &[u8], fingerprint: &[u8]) -> usize
+// Writes TVP and fingerprint, and answers the place after them. What a slot does not hold is empty.
+pub fn put_key(dst: &mut [u8], at: usize, tvp: &[u8], fingerprint: &[u8]) -> usize
     requires { (length tvp.now ≤ 16) × (length fingerprint.now ≤ 16) × (at + 36 ≤ length dst.old) }
-    ensures writes { Writes dst at
-        (payload_bytes (string (cond held tvp.now [])
-        ∷ octets (cond held fingerprint.now []) ∷ [])) result }
+    ensures writes { Writes dst at (payload_bytes (string tvp.now ∷ octets fingerprint.now ∷ [])) result }
     ensures short { result ≤ at + 36 }
 {
-    if !held {
-        let none = field_writer::put_string(dst, at, b"");
-        return field_writer::put_octets(dst, none, b"");
-    }
     let end = field_writer::put_string(dst, at, tvp);
     field_writer::put_octets(dst, end, fingerprint)
 }

@@ -1,53 +1,58 @@
 -- What is told of the slots at places, one after the other.
-use mathlib.Core.Path.{◌≡◌, refl, ap, ◌∙◌}
-use mathlib.Core.Bool.{true}
-use mathlib.Core.List.{List, [], ◌∷◌, ◌++◌, map}
-use Prim.Native.Nat.{ℕ, ◌+◌, ◌*◌, ◌^◌, ◌≤◌, ◌<◌}
-use native.Mathlib.Omega.{arith}
-use lib.ListN.{length, get_or, take, drop}
+use Rattle.std.proofs.Common.{◌≡◌, ℕ, ◌+◌, ◌-◌, ◌*◌, ◌^◌, ◌<◌, ◌≤◌, List, [], ◌∷◌, ◌++◌, map, length, get_or, take, drop, refl, ap, ltb, ◌∙◌, arith}
+use Rattle.std.proofs.lemmas.List.{map-append, take_more, take_all, length-drop}
+use borrow.Author.Tests.{ltb-true}
 use Rattle.byte_strings.specs.Wrote.{Wrote}
+use Rattle.byte_strings.proofs.Writes.{then, none}
 use Rattle.field_values.specs.Values.{string, field_bytes, payload_bytes}
-use Rattle.row_types.specs.Lists.{in_turn}
+use Rattle.field_writer.proofs.WriteLaws.{payload_append}
 use Rattle.row_types.specs.Slots.{kmcid_of}
 use Rattle.row_types.specs.Index.{kept_name}
 use Rattle.row_types.specs.RowReplies.{slot_names, name_fields}
 use Rattle.row_types.specs.declared.SlotRow.{SlotRow}
-use Rattle.row_types.proofs.LoopLaws.{list_cons}
-use Rattle.row_types.proofs.WriteLoops.{Remains, turn_written}
-use Rattle.slot_order.specs.Sequences.{name_at, are_below, slot_sequence}
-use Rattle.slot_order.proofs.SequenceLaws.{here_below, later_below, sequence_names, sequence_below, name_of}
+use Rattle.row_types.proofs.ListLaws.{every_at}
+use Rattle.slot_order.specs.Sequences.{name_at, slot_sequence}
+use Rattle.slot_order.proofs.SequenceLaws.{sequence_names, sequence_below, name_of}
 
--- the place k is told as the field of its slot's name
-abbrev pub one_name : List SlotRow → ℕ → ℕ → List ℕ
-one_name slots i k = field_bytes (string (name_at (map kept_name slots) k))
+-- the names of the slots at places
+abbrev pub told : List SlotRow → List ℕ → List ℕ
+told slots places = payload_bytes (name_fields (map (name_at (map kept_name slots)) places))
 
-in_turn_lem : (slots : List SlotRow) (i : ℕ) (places : List ℕ) → in_turn (one_name slots) i places ≡ payload_bytes (name_fields (map (name_at (map kept_name slots)) places))
-in_turn_lem slots i [] = refl
-in_turn_lem slots i (k ∷ ks) = ap (λ (l : List ℕ). one_name slots i k ++ l) (in_turn_lem slots (i + 1) ks)
+told_more : (slots : List SlotRow) (places : List ℕ) (i : ℕ) → i < length places → told slots (take (i + 1) places) ≡ told slots (take i places) ++ told slots (get_or places i 0 ∷ [])
+told_more slots places i h =
+    let name = name_at (map kept_name slots) in
+    ap (told slots) (take_more places i 0 h)
+    ∙ ap (λ (l : List (List ℕ)). payload_bytes (map string l)) (map-append name (take i places) (get_or places i 0 ∷ []))
+    ∙ ap payload_bytes (map-append string (map name (take i places)) (name (get_or places i 0) ∷ []))
+    ∙ payload_append (map string (map name (take i places))) (string (name (get_or places i 0)) ∷ [])
 
--- the places p are those of the slots by name
-module _ (slots : List SlotRow) (n : ℕ) (p : List ℕ) (e : p ≡ slot_sequence slots n) where
-  pub names_told : (i : ℕ) → in_turn (one_name slots) i p ≡ payload_bytes (name_fields (slot_names (take n slots)))
-  names_told i = in_turn_lem slots i p ∙ ap (λ (l : List (List ℕ)). payload_bytes (name_fields l)) (ap (map (name_at (map kept_name slots))) e ∙ sequence_names slots n)
+-- the places from f on
+abbrev pub rest : List ℕ → ℕ → List ℕ
+rest p f = take (length p - f) (drop f p)
 
-  pub places_below : length slots ≡ 8 → n ≤ 8 → are_below 8 p ≡ true
-  places_below z h = rw e (sequence_below slots n 8 z h)
+-- the places p from f on are those of the slots by name
+module _ (slots : List SlotRow) (n : ℕ) (p : List ℕ) (f : ℕ) (e : drop f p ≡ slot_sequence slots n) where
+  in_order : rest p f ≡ slot_sequence slots n
+  in_order = take_all (length p - f) (drop f p) (omega (arith, length-drop f p)) ∙ e
 
--- a turn
-module _ (i : ℕ) (places : List ℕ) (w : are_below 8 (drop i places) ≡ true) (z : length places ≡ 8) (h : i < 8) where
-  pub place_below : get_or places i 0 < 8
-  place_below = here_below 8 i places w (omega arith)
+  pub all_told : (i : ℕ) → length (rest p f) ≤ i → {d g : List ℕ} {a b : ℕ} → Wrote d a (told slots (take i (rest p f))) g b
+      → Wrote d a (payload_bytes (name_fields (slot_names (take n slots)))) g b
+  all_told i h w =
+      let t : told slots (take i (rest p f)) ≡ payload_bytes (name_fields (slot_names (take n slots))) =
+      ap (told slots) (take_all i (rest p f) h ∙ in_order) ∙ ap (λ (l : List (List ℕ)). payload_bytes (name_fields l)) (sequence_names slots n) in
+      rw (← t) w
 
-  -- where its row begins, a row having 73 bytes
-  pub place_fits : get_or places i 0 * 73 < 2 ^ 64
-  place_fits = omega (arith, place_below)
+  module _ (z : length slots ≡ 8) (m : n ≤ 8) (i : ℕ) where
+    pub place_below : get_or (rest p f) i 0 < 8
+    place_below = ltb-true (get_or (rest p f) i 0) 8 (every_at (λ k. ltb k 8) 0 refl (rest p f) (rw in_order (sequence_below slots n 8 z m)) i)
 
-  pub rest_below : are_below 8 (drop (i + 1) places) ≡ true
-  rest_below = later_below 8 i places w (omega arith)
+    -- where its row begins, a row having 73 bytes
+    pub place_fits : get_or (rest p f) i 0 * 73 < 2 ^ 64
+    place_fits = omega (arith, place_below)
 
-  pub name_written : (slots : List SlotRow) → length slots ≡ 8 → (d₀ : List ℕ) (a₀ : ℕ) (ws d : List ℕ) (a : ℕ) → Remains d₀ a₀ ws d a (in_turn (one_name slots) i (drop i places))
-      → (y : SlotRow) (e : List ℕ) (b : ℕ) → Wrote d a (field_bytes (string (kmcid_of (get_or slots (get_or places i 0) y)))) e b
-      → Remains d₀ a₀ ws e b (in_turn (one_name slots) (i + 1) (drop (i + 1) places))
-  name_written slots l d₀ a₀ ws d a inv y e b v =
-      let k : get_or places i 0 < length slots = omega (arith, place_below) in
-      turn_written (one_name slots) places i d₀ a₀ ws d a inv (get_or places i 0) e b (rw (← name_of slots (get_or places i 0) y k) at v) (list_cons 0 places i (omega arith))
+    -- a turn
+    pub name_told : i < length (rest p f) → (y : SlotRow) {d g h : List ℕ} {a b c : ℕ} → Wrote d a (told slots (take i (rest p f))) g b
+        → Wrote g b (field_bytes (string (kmcid_of (get_or slots (get_or (rest p f) i 0) y)))) h c → Wrote d a (told slots (take (i + 1) (rest p f))) h c
+    name_told l y {d} {g} {h} {a} {b} {c} v w =
+        let k : get_or (rest p f) i 0 < length slots = omega (arith, place_below) in
+        rw (told_more slots (rest p f) i l) (then v (then (rw (← name_of slots (get_or (rest p f) i 0) y k) at w) (none h c)))

@@ -17,14 +17,9 @@ pub fn put_names(dst: &mut [u8], at: usize, slots: [SlotRow; 8], slot_count: usi
     ensures short { result ≤ at + 336 }
 {
     let sequence = slot_order::sequence_of(slots, slot_count);
-    let places = sequence.places;
     let mut end = at;
-    let mut i = sequence.first;
-    while i < 8 {
-        let place = places[i];
-        let row = slots[place];
-        end = response_slot_fields::put_kmcid(dst, end, row);
-        i += 1;
+    for place in &sequence.places[sequence.first..] {
+        end = response_slot_fields::put_kmcid(dst, end, slots[*place]);
     }
     end
 }

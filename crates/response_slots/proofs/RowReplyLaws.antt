@@ -1,33 +1,28 @@
 -- The six fields of a slot in four writes.
-use mathlib.Core.Path.{◌≡◌}
-use mathlib.Core.Bool.{Bool, true, false, cond, not}
-use mathlib.Core.List.{List, [], ◌∷◌}
-use Prim.Native.Nat.{ℕ, ◌≤◌}
-use native.Mathlib.Omega.{arith}
-use lib.ListN.{length}
+use Rattle.std.proofs.Common.{◌≡◌, ℕ, Bool, true, false, List, [], ◌∷◌, ◌++◌}
 use Rattle.byte_strings.specs.Wrote.{Wrote}
 use Rattle.byte_strings.proofs.Writes.{then}
-use Rattle.field_values.specs.Values.{string, octets, field_bytes, payload_bytes}
+use Rattle.field_values.specs.Values.{Value, string, octets, field_bytes, payload_bytes}
+use Rattle.field_writer.proofs.WriteLaws.{payload_append}
 use Rattle.row_types.specs.Slots.{has_state, kmcid_of}
 use Rattle.row_types.specs.RowReplies.{state_text, slot_fields}
 use Rattle.row_types.specs.declared.SlotRow.{SlotRow}
 use Rattle.row_types.specs.declared.SlotState.TheVariants.{Pending}
-use Rattle.field_writer.proofs.WriteLaws.{payload_append}
 
--- the room of a TVP or a fingerprint
-pub sixteen : (l : List ℕ) → length l ≡ 16 → length l ≤ 16
-sixteen l e = omega arith
+-- two fields, and fields after them
+fields_then : {d e f : List ℕ} {a b c : ℕ} (us vs : List Value) → Wrote d a (payload_bytes us) e b → Wrote e b (payload_bytes vs) f c → Wrote d a (payload_bytes (us ++ vs)) f c
+fields_then us vs v w = rw (payload_append us vs) (then v w)
 
-module _ (r : SlotRow) (p : Bool) (e : p ≡ has_state Pending r) (d f g h k : List ℕ) (at a b c x : ℕ) where
-  pub slot_told : Wrote d at (field_bytes (string (state_text r))) f a → Wrote f a (field_bytes (string (kmcid_of r))) g b
-      → Wrote g b (payload_bytes (string (cond (not p) [] []) ∷ octets (cond (not p) r.fingerprint []) ∷ [])) h c
-      → Wrote h c (payload_bytes (string (cond p r.tvp []) ∷ octets (cond p r.fingerprint []) ∷ [])) k x
-      → Wrote d at (payload_bytes (slot_fields r)) k x
+-- p is whether the slot is PENDING
+module _ (r : SlotRow) (p : Bool) (q : p ≡ has_state Pending r) (d f g h k : List ℕ) (at a b c x : ℕ)
+    (u : Wrote d at (field_bytes (string (state_text r))) f a)
+    (v : Wrote f a (field_bytes (string (kmcid_of r))) g b) where
+  pub pending_told : p ≡ true → Wrote g b (payload_bytes (string [] ∷ octets [] ∷ [])) h c
+      → Wrote h c (payload_bytes (string r.tvp ∷ octets r.fingerprint ∷ [])) k x → Wrote d at (payload_bytes (slot_fields r)) k x
   unfolding slot_fields
-  slot_told u v w y = rw (← e) (then u (then v (go p w y)))
-    where
-      go : (q : Bool) → Wrote g b (payload_bytes (string (cond (not q) [] []) ∷ octets (cond (not q) r.fingerprint []) ∷ [])) h c
-          → Wrote h c (payload_bytes (string (cond q r.tvp []) ∷ octets (cond q r.fingerprint []) ∷ [])) k x
-          → Wrote g b (payload_bytes (string [] ∷ octets (cond q [] r.fingerprint) ∷ string (cond q r.tvp []) ∷ octets (cond q r.fingerprint []) ∷ [])) k x
-      go true s t = rw (payload_append (string [] ∷ octets [] ∷ []) (string r.tvp ∷ octets r.fingerprint ∷ [])) (then s t)
-      go false s t = rw (payload_append (string [] ∷ octets r.fingerprint ∷ []) (string [] ∷ octets [] ∷ [])) (then s t)
+  pending_told e w y = rw (← q, e) (then u (then v (fields_then (string [] ∷ octets [] ∷ []) (string r.tvp ∷ octets r.fingerprint ∷ []) w y)))
+
+  pub other_told : p ≡ false → Wrote g b (payload_bytes (string [] ∷ octets r.fingerprint ∷ [])) h c
+      → Wrote h c (payload_bytes (string [] ∷ octets [] ∷ [])) k x → Wrote d at (payload_bytes (slot_fields r)) k x
+  unfolding slot_fields
+  other_told e w y = rw (← q, e) (then u (then v (fields_then (string [] ∷ octets r.fingerprint ∷ []) (string [] ∷ octets [] ∷ []) w y)))

@@ -15,11 +15,13 @@ pub fn put_slot(dst: &mut [u8], at: usize, row: SlotRow) -> usize
     ensures writes { Writes dst at (payload_bytes (slot_fields row)) result }
     ensures short { result ≤ at + 123 }
 {
-    let fingerprint = row.fingerprint;
-    let tvp = row.tvp;
-    let pending = slot_tests::has_state(row, SlotState::Pending);
-    let a = response_slot_fields::put_state(dst, at, row);
-    let b = response_slot_fields::put_kmcid(dst, a, row);
-    let c = response_slot_fields::put_key(dst, b, !pending, b"", &fingerprint);
-    response_slot_fields::put_key(dst, c, pending, &tvp, &fingerprint)
+    let state = response_slot_fields::put_state(dst, at, row);
+    let end = response_slot_fields::put_kmcid(dst, state, row);
+    if slot_tests::has_state(row, SlotState::Pending) {
+        let kek = response_slot_fields::put_key(dst, end, b"", b"");
+        response_slot_fields::put_key(dst, kek, &row.tvp, &row.fingerprint)
+    } else {
+        let kek = response_slot_fields::put_key(dst, end, b"", &row.fingerprint);
+        response_slot_fields::put_key(dst, kek, b"", b"")
+    }
 }
