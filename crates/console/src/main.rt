@@ -8,103 +8,70 @@ use std::io;
 use std::io::Read;
 
 // The console, the line that is being read, and its number.
-#[derive(Clone, Copy)]
+#[derive(Drop)]
 struct Session {
     console: Console,
     pending: Pending,
     number: u64,
 }
 
-// Takes the line that was read, and writes what it prints.
-fn take_line(rt: &impl Print, s: Session) -> io::Result<Session> {
-    let mut out = [0u8; 20480];
-    let p = s.pending;
-    let bytes = p.bytes;
-    let n = p.length;
-    let stepped = console_steps::step(
-        s.console,
-        s.number,
-        byte_strings::front(&bytes, n),
-        &mut out,
-    );
-    rt.write_all(byte_strings::front(&out, stepped.length))?;
-    let console = stepped.console;
-    Ok(Session {
-        console,
-        pending: console_input::nothing(),
-        number: console_input::next_number(s.number),
-    })
-}
-
-// Adds bytes to the line that is being read.
-fn add(s: Session, more: &[u8]) -> Session {
-    let mut t = s;
-    t.pending = console_input::added(s.pending, more);
-    t
-}
-
-// Takes each line that ends in what was read, and keeps what follows the last.
-fn take_lines(rt: &impl Print, s: Session, read: &[u8]) -> io::Result<Session> {
-    let mut t = s;
-    let mut at = 0;
-    while at < read.len() {
-        let e = byte_pieces::piece_end(read, at, b'\n');
-        t = add(t, &read[at..e]);
-        if e < read.len() {
-            t = take_line(rt, t)?;
-        }
-        at = e + 1;
+impl Session {
+    // Adds bytes to the line that is being read.
+    fn add(&mut self, more: &[u8]) {
+        self.pending = console_input::added(self.pending, more);
     }
-    Ok(t)
-}
 
-// What was read, and whether there was anything to read.
-#[derive(Clone, Copy)]
-struct Taken {
-    session: Session,
-    more: bool,
-}
-
-// Reads once, and takes the lines that end in it.
-fn read_some<R: Read>(rt: &impl Print, input: &mut R, s: Session) -> io::Result<Taken> {
-    let mut space = [0u8; 65536];
-    let n = input.read(&mut space)?;
-    let session = take_lines(rt, s, &space[..n])?;
-    Ok(Taken {
-        session,
-        more: 0 < n,
-    })
-}
-
-// Reads to the end. Nothing says that an input ends, so the turns are counted, up to a number that no run uses up.
-fn read_all<R: Read>(rt: &impl Print, input: &mut R, start: Session) -> io::Result<Session> {
-    let mut s = start;
-    for _ in 0..u64::MAX {
-        let taken = read_some(rt, input, s)?;
-        let session = taken.session;
-        s = session;
-        if !taken.more {
-            return Ok(s);
-        }
+    // Takes the line that was read, and writes what it prints.
+    fn take_line(&mut self, rt: &impl Print) -> io::Result<()> {
+        let mut out = [0u8; 20480];
+        let pending = self.pending;
+        let stepped = console_steps::step(
+            self.console,
+            self.number,
+            byte_strings::front(&pending.bytes, pending.length),
+            &mut out,
+        );
+        rt.write_all(&out[..stepped.length])?;
+        self.console = stepped.console;
+        self.pending = console_input::nothing();
+        self.number = console_input::next_number(self.number);
+        Ok(())
     }
-    Ok(s)
+
+    // Takes each line that ends in what was read, and keeps what follows the last.
+    fn take_lines(&mut self, rt: &impl Print, read: &[u8]) -> io::Result<()> {
+        for (line_feeds, piece) in read.split(|b| *b == b'\n').enumerate() {
+            if 0 < line_feeds {
+                self.take_line(rt)?;
+            }
+            self.add(piece);
+        }
+        Ok(())
+    }
+
+    // Reads to the end. Nothing says that an input ends, so the turns are counted, up to a number that no run uses up.
+    fn read_all<R: Read>(&mut self, rt: &impl Print, input: &mut R) -> io::Result<()> {
+        let mut space = [0u8; 65536];
+        for _ in 0..u64::MAX {
+            let count = input.read(&mut space)?;
+            if count == 0 {
+                break;
+            }
+            self.take_lines(rt, &space[..count])?;
+        }
+        Ok(())
+    }
 }
 
 fn main(rt: HostRuntime) -> io::Result<()> {
-    let console = console_state::start();
-    let pending = console_input::nothing();
-    let s = read_all(
-        &rt,
-        &mut rt.stdin(),
-        Session {
-            console,
-            pending,
-            number: 1,
-        },
-    )?;
-    let p = s.pending;
-    if 0 < p.length {
-        take_line(&rt, s)?;
+    let mut session = Session {
+        console: console_state::start(),
+        pending: console_input::nothing(),
+        number: 1,
+    };
+    session.read_all(&rt, &mut rt.stdin())?;
+    if 0 < session.pending.length {
+        session.take_line(&rt)?;
     }
     Ok(())
 }

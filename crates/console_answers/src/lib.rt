@@ -1,22 +1,21 @@
 // The lines that the console answers with (docs/CONSOLE.md), over numbers.
 #![tactic(auto)]
 
-ghost use Rattle.std.specs.Prelude.{◌++◌, ◌+◌, ◌≤◌, length};
+ghost use Rattle.std.specs.Prelude.{◌≡◌, cond, ◌+◌, ◌≤◌, length};
 ghost use Rattle.byte_strings.specs.Texts.{text};
 ghost use Rattle.byte_strings.specs.Wrote.{Writes};
 ghost use Rattle.console_answers.specs.Answers.{reply_text, answer_line, usable_line, other_line};
 
-// Writes a response without its carriage return, or - for none, and a line feed.
-fn put_reply(dst: &mut [u8], at: usize, response: &[u8]) -> usize
-    requires { at + length response.now + 2 ≤ length dst.old }
-    ensures writes { Writes dst at (reply_text response.now ++ text "\n") result }
-    ensures short { result ≤ at + length response.now + 2 }
+// The response without its carriage return, or - for none.
+#[tactic(auto, unfolding(crate::specs::Answers::reply_text))]
+fn reply_text(response: &[u8]) -> &[u8]
+    ensures result_value { result.now ≡ reply_text response.now }
+    ensures short { length result.now ≤ length response.now + 1 }
 {
-    let n = response.len();
-    if n == 0 {
-        return console_prints::put_last(dst, at, b"-");
+    match response {
+        [] => b"-",
+        [kept @ .., _] => kept,
     }
-    console_prints::put_last(dst, at, &response[0..n - 1])
 }
 
 // The line that answers a request, by the outcome's number and that of the slot state left, or 255.
@@ -28,7 +27,13 @@ pub fn put_answer(dst: &mut [u8], number: u64, outcome: u8, left: u8, response: 
     let a = console_prints::put_long(dst, 0, number);
     let b = console_prints::put_number(dst, a, outcome as u32);
     let c = console_states::put_state(dst, b, left, b"-");
-    put_reply(dst, c, response)
+    console_prints::put_last(dst, c, reply_text(response))
+}
+
+fn yes_or_no(yes: bool) -> &'static [u8]
+    ensures { result.now ≡ cond yes (text "yes") (text "no") }
+{
+    if yes { b"yes" } else { b"no" }
 }
 
 // The line that says whether a key may vend.
@@ -38,10 +43,7 @@ pub fn put_usable(dst: &mut [u8], number: u64, yes: bool) -> usize
     ensures fits { result ≤ length dst.old }
 {
     let end = console_prints::put_long(dst, 0, number);
-    if yes {
-        return console_prints::put_last(dst, end, b"yes");
-    }
-    console_prints::put_last(dst, end, b"no")
+    console_prints::put_last(dst, end, yes_or_no(yes))
 }
 
 // The line that answers a line of no form.

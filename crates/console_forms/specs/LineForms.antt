@@ -8,7 +8,7 @@ use Rattle.text_forms.specs.declared.Form.TheVariants.{Hex}
 use Rattle.console_words.specs.Words.{word, rest}
 
 -- tables S R
-unfoldable pub are_tables : List ℕ → Bool
+abbrev pub are_tables : List ℕ → Bool
 are_tables r =
     all (
     is_number 1 0 9 (word r)  -- S from 0 to 9
@@ -16,11 +16,11 @@ are_tables r =
     ∷ [])
 
 -- the second word is a number from 0 to 255: the state of a slot, the mark of a register
-unfoldable pub has_byte : List ℕ → Bool
+abbrev pub has_byte : List ℕ → Bool
 has_byte r = is_number 3 0 255 (word (rest r))
 
 -- NAME FINGERPRINT TVP, two digits a byte
-unfoldable pub is_slot_row : List ℕ → Bool
+abbrev pub is_slot_row : List ℕ → Bool
 is_slot_row d =
     all (
     in_form (Hex 80) (word d)  -- NAME: 40 bytes
@@ -29,7 +29,7 @@ is_slot_row d =
     ∷ [])
 
 -- slot K S NAME FINGERPRINT TVP
-unfoldable pub is_slot : List ℕ → Bool
+abbrev pub is_slot : List ℕ → Bool
 is_slot r =
     all (
     is_number 1 1 8 (word r)  -- K from 1 to 8
@@ -38,7 +38,7 @@ is_slot r =
     ∷ [])
 
 -- register K M CARD (document 02, N3), two digits a byte
-unfoldable pub is_register : List ℕ → Bool
+abbrev pub is_register : List ℕ → Bool
 is_register r =
     all (
     is_number 2 1 32 (word r)  -- K from 1 to 32

@@ -3,12 +3,9 @@ use mathlib.Core.Path.{◌≡◌, sym, ap, ◌∙◌}
 use mathlib.Core.List.{List, ◌++◌}
 use Prim.Native.Nat.{ℕ, ◌+◌, ◌-◌, ◌≤◌, ◌<◌}
 use native.Mathlib.Omega.{arith}
-use lib.Dec.{eqb}
 use lib.ListN.{length, take, drop, length-append}
 use lib.Seq.{sets-eq, take_all, take_at, take-append-add, length-take-le}
-use borrow.Author.Tests.{eq-eqb, ne_eqb}
 use Rattle.byte_strings.specs.Wrote.{Wrote}
-use Rattle.console_input.specs.Input.{next_number}
 
 -- added: n bytes so far
 module _ (bytes s : List ℕ) (n : ℕ) (z : length bytes ≡ 4097) where
@@ -36,13 +33,3 @@ module _ (bytes s : List ℕ) (n : ℕ) (z : length bytes ≡ 4097) where
         ap (take m) (w.bytes ∙ sets-eq v bytes n (there_is_room v h q))
         ∙ take_at (take n bytes ++ v) (drop (n + length v) bytes) m k
         ∙ front_added
-
--- next_number
-module _ (n : ℕ) where
-  pub highest : n ≡ 18446744073709551615 → n ≡ next_number n
-  unfolding next_number
-  highest h = rw (eq-eqb n 18446744073709551615 h)
-
-  pub higher : (n ≡ 18446744073709551615 → ⊥) → n + 1 ≡ next_number n
-  unfolding next_number
-  higher h = rw (ne_eqb n 18446744073709551615 h)

@@ -26,21 +26,19 @@ pub fn nothing() -> Pending
 pub fn added(pending: Pending, more: &[u8]) -> Pending
     ensures { held result ≡ take 4097 (held pending ++ more.now) }
 {
-    let mut bytes = pending.bytes;
-    if 4097 < pending.length {
+    if pending.bytes.len() < pending.length {
         return pending;
     }
-    let fits = byte_strings::front(more, 4097 - pending.length);
+    let mut bytes = pending.bytes;
+    let fits = byte_strings::front(more, bytes.len() - pending.length);
     let length = byte_strings::put(&mut bytes, pending.length, fits);
     Pending { bytes, length }
 }
 
 // The number of the next line.
+#[tactic(auto, unfolding(crate::specs::Input::next_number))]
 pub fn next_number(number: u64) -> u64
     ensures { result ≡ next_number number }
 {
-    if number == 18446744073709551615 {
-        return number;
-    }
-    number + 1
+    number.saturating_add(1)
 }

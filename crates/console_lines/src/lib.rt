@@ -32,122 +32,114 @@ pub enum Line {
     Rows,
     Usable(usize),
     Show,
-    Other,
 }
 
-fn tables_line(r: &[u8]) -> Line
+#[tactic(auto, using(text_decimals::proofs::NumberLaws::number_short))]
+fn tables_line(r: &[u8]) -> Option<Line>
     ensures { result ≡ tables_line r.now }
 {
     if !console_forms::are_tables(r) {
-        return Line::Other;
+        return None;
     }
-    Line::Tables {
+    Some(Line::Tables {
         slot_count: text_decimals::decimal(console_words::word(r)) as usize,
         register_count: text_decimals::decimal(console_words::rest(r)) as usize,
-    }
+    })
 }
 
-fn buffer_line(r: &[u8]) -> Line
+#[tactic(auto, using(text_decimals::proofs::NumberLaws::number_short))]
+fn buffer_line(r: &[u8]) -> Option<Line>
     ensures { result ≡ buffer_line r.now }
 {
     if !text_decimals::is_number(4, 0, 2048, r) {
-        return Line::Other;
+        return None;
     }
-    Line::Buffer(text_decimals::decimal(r) as usize)
+    Some(Line::Buffer(text_decimals::decimal(r) as usize))
 }
 
-fn part_line(p: Part, r: &[u8]) -> Line
+fn part_line(p: Part, r: &[u8]) -> Option<Line>
     ensures { result ≡ part_line p r.now }
 {
-    if 1024 < r.len() {
-        return Line::Other;
-    }
-    Line::Set(p)
+    (r.len() <= 1024).then_some(Line::Set(p))
 }
 
-fn passed_line(r: &[u8]) -> Line
+fn passed_line(r: &[u8]) -> Option<Line>
     ensures { result ≡ passed_line r.now }
 {
     if byte_strings::same_bytes(r, b"yes") {
-        return Line::Passed(1);
+        Some(Line::Passed(1))
+    } else if byte_strings::same_bytes(r, b"no") {
+        Some(Line::Passed(0))
+    } else {
+        None
     }
-    if byte_strings::same_bytes(r, b"no") {
-        return Line::Passed(0);
-    }
-    Line::Other
 }
 
-fn send_line(r: &[u8]) -> Line
+fn send_line(r: &[u8]) -> Option<Line>
     ensures { result ≡ send_line r.now }
 {
-    if 2043 < r.len() {
-        return Line::Other;
-    }
-    Line::Send
+    (r.len() <= 2043).then_some(Line::Send)
 }
 
-fn raw_line(r: &[u8]) -> Line
+fn raw_line(r: &[u8]) -> Option<Line>
     ensures { result ≡ raw_line r.now }
 {
-    if 4092 < r.len() {
-        return Line::Other;
-    }
-    if !field_values::is_octets(r) {
-        return Line::Other;
-    }
-    Line::Raw
+    (r.len() <= 4092 && field_values::is_octets(r)).then_some(Line::Raw)
 }
 
-fn slot_line(r: &[u8]) -> Line
+#[tactic(auto, using(crate::proofs::Numbers::number_bounds))]
+fn slot_line(r: &[u8]) -> Option<Line>
     ensures { result ≡ slot_line r.now }
 {
     if !console_forms::is_slot(r) {
-        return Line::Other;
+        return None;
     }
-    Line::Slot {
+    Some(Line::Slot {
         row: text_decimals::decimal(console_words::word(r)) as usize - 1,
         state: text_decimals::decimal(console_words::word(console_words::rest(r))) as u8,
-    }
+    })
 }
 
-fn register_line(r: &[u8]) -> Line
+#[tactic(auto, using(crate::proofs::Numbers::number_bounds))]
+fn register_line(r: &[u8]) -> Option<Line>
     ensures { result ≡ register_line r.now }
 {
     if !console_forms::is_register(r) {
-        return Line::Other;
+        return None;
     }
-    Line::Register {
+    Some(Line::Register {
         row: text_decimals::decimal(console_words::word(r)) as usize - 1,
         mark: text_decimals::decimal(console_words::word(console_words::rest(r))) as u8,
-    }
+    })
 }
 
-fn usable_line(r: &[u8]) -> Line
+#[tactic(auto, using(text_decimals::proofs::NumberLaws::number_short))]
+fn usable_line(r: &[u8]) -> Option<Line>
     ensures { result ≡ usable_line r.now }
 {
     if !text_decimals::is_number(10, 0, 2147483647, r) {
-        return Line::Other;
+        return None;
     }
-    Line::Usable(text_decimals::decimal(r) as usize)
+    Some(Line::Usable(text_decimals::decimal(r) as usize))
 }
 
 // A line of one word.
-fn alone_line(v: Verb) -> Line
-    ensures { result ≡ alone_line v }
+fn alone_line(verb: Verb) -> Option<Line>
+    ensures { result ≡ alone_line verb }
 {
-    match v {
-        Verb::Raw => Line::Raw,
-        Verb::Rows => Line::Rows,
-        Verb::Show => Line::Show,
-        _ => Line::Other,
+    match verb {
+        Verb::Raw => Some(Line::Raw),
+        Verb::Rows => Some(Line::Rows),
+        Verb::Show => Some(Line::Show),
+        _ => None,
     }
 }
 
 // A line whose first word is followed by a space.
-fn rest_line(v: Verb, r: &[u8]) -> Line
-    ensures { result ≡ rest_line v r.now }
+fn rest_line(verb: Verb, r: &[u8]) -> Option<Line>
+    ensures { result ≡ rest_line verb r.now }
 {
-    match v {
+    match verb {
         Verb::Tables => tables_line(r),
         Verb::Buffer => buffer_line(r),
         Verb::Set(p) => part_line(p, r),
@@ -157,26 +149,25 @@ fn rest_line(v: Verb, r: &[u8]) -> Line
         Verb::Slot => slot_line(r),
         Verb::Register => register_line(r),
         Verb::Usable => usable_line(r),
-        _ => Line::Other,
+        _ => None,
     }
 }
 
-// What a line asks for.
-pub fn line_of(line: &[u8]) -> Line
+// What a line asks for; nothing where it is in no form.
+#[tactic(auto, unfolding(crate::specs::Lines::line_of))]
+pub fn line_of(line: &[u8]) -> Option<Line>
     ensures { result ≡ line_of line.now }
 {
-    if line.len() == 0 {
-        return Line::Nothing;
-    }
     if 4096 < line.len() {
-        return Line::Other;
+        return None;
     }
-    if line[0] == b'#' {
-        return Line::Nothing;
+    if let [] | [b'#', ..] = line {
+        return Some(Line::Nothing);
     }
-    let v = console_verbs::verb_of(console_words::word(line));
+    let verb = console_verbs::verb_of(console_words::word(line))?;
     if console_words::has_rest(line) {
-        return rest_line(v, console_words::rest(line));
+        rest_line(verb, console_words::rest(line))
+    } else {
+        alone_line(verb)
     }
-    alone_line(v)
 }

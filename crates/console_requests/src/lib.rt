@@ -18,21 +18,12 @@ pub struct Stepped {
 }
 
 // How many bytes of response buffer are lent.
+#[tactic(auto, unfolding(crate::specs::Requests::room))]
 fn room(console: Console) -> usize
     ensures value { result ≡ room console }
     ensures small { result ≤ 2048 }
 {
-    if 2048 < console.room {
-        return 2048;
-    }
-    console.room
-}
-
-// 2,048 full stops. The contract gives only their number, which lending a part of them needs.
-fn dots() -> [u8; 2048]
-    ensures { 2048 ≡ length result }
-{
-    [b'.'; 2048]
+    console.room.min(2048)
 }
 
 // Hands in a request, and prints its answer.
@@ -43,37 +34,37 @@ fn hand_in(console: Console, number: u64, request: &[u8], out: &mut [u8]) -> Ste
         out.old out.new result.length }
     ensures fits { result.length ≤ length out.old }
 {
-    let mut response = dots();
-    let n = room(console);
+    let mut response = [b'.'; 2048];
     let tables = console.tables;
-    let slots = tables.slots;
-    let registers = tables.registers;
     let counts = Counts {
         slots: tables.slot_count,
         registers: tables.register_count,
     };
-    let a = entry_numbers::answer_rows(
-        slots,
-        registers,
+    let answer = entry_numbers::answer_rows(
+        tables.slots,
+        tables.registers,
         counts,
         console.supplement,
         request,
-        &mut response[..n],
+        &mut response[..room(console)],
     );
-    let r = a.reply;
-    let m = r.length;
-    let length = console_answers::put_answer(out, number, r.outcome, r.state, &response[..m]);
-    let slots_after = a.slots;
-    let registers_after = a.registers;
+    let reply = answer.reply;
+    let length = console_answers::put_answer(
+        out,
+        number,
+        reply.outcome,
+        reply.state,
+        &response[..reply.length],
+    );
+    let slots = answer.slots;
+    let registers = answer.registers;
     let left = Tables {
-        slots: slots_after,
-        registers: registers_after,
-        slot_count: tables.slot_count,
-        register_count: tables.register_count,
+        slots,
+        registers,
+        ..tables
     };
-    let after = console_state::with_tables(console, left);
     Stepped {
-        console: after,
+        console: console_state::with_tables(console, left),
         length,
     }
 }
@@ -86,7 +77,7 @@ pub fn send(console: Console, number: u64, text: &[u8], out: &mut [u8]) -> Stepp
         out.old out.new result.length }
     ensures fits { result.length ≤ length out.old }
 {
-    let mut request = dots();
+    let mut request = [b'.'; 2048];
     let n = byte_strings::put(&mut request, 0, text);
     let m = message_writer::close_message(&mut request, n);
     hand_in(console, number, &request[..m], out)
@@ -100,7 +91,7 @@ pub fn send_octets(console: Console, number: u64, digits: &[u8], out: &mut [u8])
         out.old out.new result.length }
     ensures fits { result.length ≤ length out.old }
 {
-    let mut request = dots();
+    let mut request = [b'.'; 2048];
     let n = console_octets::put_octets(&mut request, digits);
     hand_in(console, number, &request[..n], out)
 }

@@ -37,7 +37,8 @@ pub fn put_slot(dst: &mut [u8], at: usize, index: usize, row: SlotRow) -> usize
     ensures writes { Writes dst at (slot_line index row) result }
     ensures short { result ≤ at + 180 }
 {
-    if slot_forms::is_zero_slot(row) {
+    let is_zero = slot_forms::is_zero_slot(row);
+    if is_zero {
         return at;
     }
     let a = console_prints::put_word(dst, at, b"slot");
@@ -52,7 +53,8 @@ pub fn put_register(dst: &mut [u8], at: usize, index: usize, row: RegisterRow) -
     ensures writes { Writes dst at (register_line index row) result }
     ensures short { result ≤ at + 544 }
 {
-    if register_rows::is_zero_register(row) {
+    let is_zero = register_rows::is_zero_register(row);
+    if is_zero {
         return at;
     }
     let a = console_prints::put_word(dst, at, b"register");

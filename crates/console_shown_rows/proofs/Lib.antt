@@ -1,1 +1,1 @@
-pub mod ShowLaws
+pub mod MarkLaws

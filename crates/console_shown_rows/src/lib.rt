@@ -1,7 +1,7 @@
 // One row for people, as the line `show` of the console prints it (docs/CONSOLE.md), and how many rows there are.
 #![tactic(auto)]
 
-ghost use Rattle.std.specs.Prelude.{[], ◌∷◌, ◌++◌, ◌+◌, ◌≤◌, ◌<◌, length};
+ghost use Rattle.std.specs.Prelude.{◌≡◌, [], ◌∷◌, ◌++◌, ◌+◌, ◌≤◌, ◌<◌, length};
 ghost use Rattle.byte_strings.specs.Texts.{text};
 ghost use Rattle.byte_strings.specs.Wrote.{Writes};
 ghost use Rattle.console_prints.specs.Prints.{line_bytes};
@@ -29,7 +29,8 @@ pub fn put_slot(dst: &mut [u8], at: usize, index: usize, row: SlotRow) -> usize
     ensures writes { Writes dst at (slot_shown index row) result }
     ensures short { result ≤ at + 105 }
 {
-    if slot_forms::is_zero_slot(row) {
+    let is_zero = slot_forms::is_zero_slot(row);
+    if is_zero {
         return at;
     }
     let a = console_prints::put_word(dst, at, b"slot");
@@ -38,15 +39,10 @@ pub fn put_slot(dst: &mut [u8], at: usize, index: usize, row: SlotRow) -> usize
     put_fields(dst, c, row)
 }
 
-fn put_usable(dst: &mut [u8], at: usize, yes: bool) -> usize
-    requires { at + 9 ≤ length dst.old }
-    ensures writes { Writes dst at (usable_shown yes ++ text " ") result }
-    ensures short { result ≤ at + 9 }
+fn usable_shown(yes: bool) -> &'static [u8]
+    ensures { result.now ≡ usable_shown yes }
 {
-    if yes {
-        return console_prints::put_word(dst, at, b"usable");
-    }
-    console_prints::put_word(dst, at, b"unusable")
+    if yes { b"usable" } else { b"unusable" }
 }
 
 // Writes the name of a mark, or the number of no mark, and a space.
@@ -55,14 +51,14 @@ fn put_mark(dst: &mut [u8], at: usize, mark: u8) -> usize
     ensures writes { Writes dst at (mark_shown mark ++ text " ") result }
     ensures short { result ≤ at + 16 }
 {
-    if mark == CLOSED {
-        return console_prints::put_word(dst, at, b"closed");
+    match mark {
+        CLOSED => console_prints::put_word(dst, at, b"closed"),
+        OPEN => console_prints::put_word(dst, at, b"open"),
+        _ => {
+            let number = console_prints::put_word(dst, at, b"mark");
+            console_prints::put_number(dst, number, mark as u32)
+        }
     }
-    if mark == OPEN {
-        return console_prints::put_word(dst, at, b"open");
-    }
-    let number = console_prints::put_word(dst, at, b"mark");
-    console_prints::put_number(dst, number, mark as u32)
 }
 
 // The last three words of a register row's line.
@@ -73,7 +69,7 @@ fn put_key(dst: &mut [u8], at: usize, yes: bool, row: RegisterRow) -> usize
     ensures short { result ≤ at + 283 }
 {
     let a = put_mark(dst, at, row.mark);
-    let b = put_usable(dst, a, yes);
+    let b = console_prints::put_word(dst, a, usable_shown(yes));
     console_text::put_shown(dst, b, &row.card, b'\n')
 }
 
@@ -83,7 +79,8 @@ pub fn put_register(dst: &mut [u8], at: usize, index: usize, yes: bool, row: Reg
     ensures writes { Writes dst at (register_shown yes index row) result }
     ensures short { result ≤ at + 303 }
 {
-    if register_rows::is_zero_register(row) {
+    let is_zero = register_rows::is_zero_register(row);
+    if is_zero {
         return at;
     }
     let a = console_prints::put_word(dst, at, b"register");

@@ -1,6 +1,6 @@
 -- The console's state, and what a line that hands nothing in does to it (docs/CONSOLE.md). r is what stands after the
 -- line's first space.
-use Rattle.std.specs.Prelude.{ℕ, Bool, true, cond, List, ltb}
+use Rattle.std.specs.Prelude.{ℕ, Bool, true, cond, List, ltb, Option, Some, None}
 use Rattle.row_types.specs.declared.Supplement.{Supplement}
 use Rattle.row_types.specs.declared.Tables.{Tables}
 use Rattle.console_words.specs.Words.{rest}
@@ -24,20 +24,17 @@ has_row t line.Raw = true
 has_row t line.Rows = true
 has_row t (line.Usable k) = true
 has_row t line.Show = true
-has_row t line.Other = true
 
--- a line that sets a row that the tables lack is of another form
-unfoldable pub checked : Tables → Line → Line
-checked t l = cond (has_row t l) l line.Other
+-- a line that sets a row that the tables lack is in no form
+abbrev pub checked : Tables → Option Line → Option Line
+checked t None = None
+checked t (Some l) = cond (has_row t l) (Some l) None
 
 abbrev pub with_tables : Tables → Console → Console
-with_tables t c = record { tables = t; supplement = c.supplement; room = c.room }
+with_tables t c = record c { tables = t }
 
 abbrev pub with_supplement : Supplement → Console → Console
-with_supplement x c = record { tables = c.tables; supplement = x; room = c.room }
-
-abbrev pub with_room : ℕ → Console → Console
-with_room n c = record { tables = c.tables; supplement = c.supplement; room = n }
+with_supplement x c = record c { supplement = x }
 
 -- 8 slot rows, 32 register rows, a buffer of 1,024 bytes
 unfoldable pub start : Console
@@ -46,7 +43,7 @@ start = record { tables = empty_tables 8 32; supplement = start_supplement; room
 -- the other lines leave the state
 abbrev pub set_by : Console → Line → List ℕ → Console
 set_by c (line.Tables m n) r = with_tables (empty_tables m n) c
-set_by c (line.Buffer n) r = with_room n c
+set_by c (line.Buffer n) r = record c { room = n }
 set_by c (line.Set p) r = with_supplement (with_part p r c.supplement) c
 set_by c (line.Passed n) r = with_supplement (with_passed n c.supplement) c
 set_by c (line.Slot k s) r = with_tables (with_slot k (slot_of s (rest (rest r))) c.tables) c
@@ -57,4 +54,3 @@ set_by c line.Raw r = c
 set_by c line.Rows r = c
 set_by c (line.Usable k) r = c
 set_by c line.Show r = c
-set_by c line.Other r = c

@@ -2,7 +2,7 @@
 #![tactic(auto)]
 
 ghost use Rattle.std.specs.Prelude.{◌≡◌};
-ghost use Rattle.console_state.specs.State.{has_row, checked, with_tables, with_supplement, with_room, start, set_by};
+ghost use Rattle.console_state.specs.State.{has_row, checked, with_tables, with_supplement, start, set_by};
 
 use console_lines::Line;
 use row_types::{Supplement, Tables};
@@ -20,48 +20,37 @@ fn has_row(tables: Tables, line: Line) -> bool
     ensures { result ≡ has_row tables line }
 {
     match line {
-        Line::Slot { row, state: _ } => row < tables.slot_count,
-        Line::Register { row, mark: _ } => row < tables.register_count,
+        Line::Slot { row, .. } => row < tables.slot_count,
+        Line::Register { row, .. } => row < tables.register_count,
         _ => true,
     }
 }
 
-// The line, or another form where it sets a row that the tables lack.
-pub fn checked(tables: Tables, line: Line) -> Line
+// The line, or none where it sets a row that the tables lack.
+pub fn checked(tables: Tables, line: Option<Line>) -> Option<Line>
     ensures { result ≡ checked tables line }
 {
-    if has_row(tables, line) {
-        return line;
-    }
-    Line::Other
+    line.filter(|line| has_row(tables, *line))
 }
 
 // The state with other tables.
 pub fn with_tables(console: Console, tables: Tables) -> Console
     ensures { result ≡ with_tables tables console }
 {
-    let mut d = console;
-    d.tables = tables;
-    d
+    Console { tables, ..console }
 }
 
 fn with_supplement(console: Console, supplement: Supplement) -> Console
     ensures { result ≡ with_supplement supplement console }
 {
-    let mut d = console;
-    d.supplement = supplement;
-    d
-}
-
-fn with_room(console: Console, room: usize) -> Console
-    ensures { result ≡ with_room room console }
-{
-    let mut d = console;
-    d.room = room;
-    d
+    Console {
+        supplement,
+        ..console
+    }
 }
 
 // The state at the start.
+#[tactic(auto, unfolding(crate::specs::State::start))]
 pub fn start() -> Console
     ensures { result ≡ start }
 {
@@ -76,34 +65,34 @@ pub fn start() -> Console
 pub fn set_by(console: Console, line: Line, rest: &[u8]) -> Console
     ensures { result ≡ set_by console line rest.now }
 {
+    let digits = console_words::rest(console_words::rest(rest));
     match line {
         Line::Tables {
             slot_count,
             register_count,
-        } => {
-            let t = console_tables::empty_tables(slot_count, register_count);
-            with_tables(console, t)
-        }
-        Line::Buffer(n) => with_room(console, n),
-        Line::Set(p) => {
-            let x = console_supplement::set_part(console.supplement, p, rest);
-            with_supplement(console, x)
-        }
-        Line::Passed(n) => {
-            let x = console_supplement::set_passed(console.supplement, n);
-            with_supplement(console, x)
-        }
+        } => with_tables(
+            console,
+            console_tables::empty_tables(slot_count, register_count),
+        ),
+        Line::Buffer(room) => Console { room, ..console },
+        Line::Set(part) => with_supplement(
+            console,
+            console_supplement::set_part(console.supplement, part, rest),
+        ),
+        Line::Passed(passed) => with_supplement(
+            console,
+            console_supplement::set_passed(console.supplement, passed),
+        ),
         Line::Slot { row, state } => {
-            let d = console_words::rest(console_words::rest(rest));
-            let filled = console_tables::slot_of(state, d);
-            let t = console_tables::set_slot(console.tables, row, filled);
-            with_tables(console, t)
+            let slot = console_tables::slot_of(state, digits);
+            with_tables(console, console_tables::set_slot(console.tables, row, slot))
         }
         Line::Register { row, mark } => {
-            let d = console_words::rest(console_words::rest(rest));
-            let filled = console_tables::register_of(mark, d);
-            let t = console_tables::set_register(console.tables, row, filled);
-            with_tables(console, t)
+            let register = console_tables::register_of(mark, digits);
+            with_tables(
+                console,
+                console_tables::set_register(console.tables, row, register),
+            )
         }
         _ => console,
     }

@@ -7,16 +7,18 @@ ghost use Rattle.byte_strings.specs.Wrote.{Writes};
 ghost use Rattle.console_states.specs.States.{state_name};
 
 // Writes the name of a state's number, or `other` for the number of no state, and a space.
+#[tactic(auto, unfolding(crate::specs::States::state_name))]
 pub fn put_state(dst: &mut [u8], at: usize, state: u8, other: &[u8]) -> usize
     requires { (at + 8 ≤ length dst.old) × (length other.now ≤ 7) }
     ensures writes { Writes dst at (state_name other.now state ++ text " ") result }
     ensures short { result ≤ at + 8 }
 {
-    match state {
-        0 => console_prints::put_word(dst, at, b"FREE"),
-        1 => console_prints::put_word(dst, at, b"PENDING"),
-        2 => console_prints::put_word(dst, at, b"LOADING"),
-        3 => console_prints::put_word(dst, at, b"IDLE"),
-        _ => console_prints::put_word(dst, at, other),
-    }
+    let name: &[u8] = match state {
+        0 => b"FREE",
+        1 => b"PENDING",
+        2 => b"LOADING",
+        3 => b"IDLE",
+        _ => other,
+    };
+    console_prints::put_word(dst, at, name)
 }

@@ -23,7 +23,6 @@ fn say(console: Console, number: u64, line: Line, out: &mut [u8]) -> usize
             console_answers::put_usable(out, number, yes)
         }
         Line::Show => console_show::put_show(out, console.tables),
-        Line::Other => console_answers::put_other(out, number),
         _ => 0,
     }
 }
@@ -36,21 +35,22 @@ pub fn step(console: Console, number: u64, line: &[u8], out: &mut [u8]) -> Stepp
         out.old out.new result.length }
     ensures fits { result.length ≤ length out.old }
 {
-    let asked = console_state::checked(console.tables, console_lines::line_of(line));
-    let r = console_words::rest(line);
-    match asked {
-        Line::Send => console_requests::send(console, number, byte_strings::front(r, 2043), out),
-        Line::Raw => console_requests::send_octets(
+    let rest = console_words::rest(line);
+    match console_state::checked(console.tables, console_lines::line_of(line)) {
+        None => Stepped {
             console,
-            number,
-            byte_strings::front(r, 4092),
-            out,
-        ),
-        _ => {
+            length: console_answers::put_other(out, number),
+        },
+        Some(Line::Send) => {
+            console_requests::send(console, number, byte_strings::front(rest, 2043), out)
+        }
+        Some(Line::Raw) => {
+            console_requests::send_octets(console, number, byte_strings::front(rest, 4092), out)
+        }
+        Some(asked) => {
             let length = say(console, number, asked, out);
-            let after = console_state::set_by(console, asked, r);
             Stepped {
-                console: after,
+                console: console_state::set_by(console, asked, rest),
                 length,
             }
         }

@@ -11,91 +11,16 @@ use Rattle.console_verbs.specs.declared.Part.TheVariants.{Clock, Identity, LoadR
 unfoldable pub fitted : ℕ → List ℕ → List ℕ
 fitted n v = cond (eqb (length v) n) v (replicate n 0)
 
-abbrev pub with_clock : List ℕ → Supplement → Supplement
-with_clock v x =
-    record {
-      clock = v;
-      identity = x.identity;
-      identity_length = x.identity_length;
-      request = x.request;
-      request_length = x.request_length;
-      tag = x.tag;
-      check = x.check;
-      passed = x.passed;
-    }
-
-abbrev pub with_identity : List ℕ → ℕ → Supplement → Supplement
-with_identity v n x =
-    record {
-      clock = x.clock;
-      identity = v;
-      identity_length = n;
-      request = x.request;
-      request_length = x.request_length;
-      tag = x.tag;
-      check = x.check;
-      passed = x.passed;
-    }
-
-abbrev pub with_request : List ℕ → ℕ → Supplement → Supplement
-with_request v n x =
-    record {
-      clock = x.clock;
-      identity = x.identity;
-      identity_length = x.identity_length;
-      request = v;
-      request_length = n;
-      tag = x.tag;
-      check = x.check;
-      passed = x.passed;
-    }
-
-abbrev pub with_tag : List ℕ → Supplement → Supplement
-with_tag v x =
-    record {
-      clock = x.clock;
-      identity = x.identity;
-      identity_length = x.identity_length;
-      request = x.request;
-      request_length = x.request_length;
-      tag = v;
-      check = x.check;
-      passed = x.passed;
-    }
-
-abbrev pub with_check : List ℕ → Supplement → Supplement
-with_check v x =
-    record {
-      clock = x.clock;
-      identity = x.identity;
-      identity_length = x.identity_length;
-      request = x.request;
-      request_length = x.request_length;
-      tag = x.tag;
-      check = v;
-      passed = x.passed;
-    }
-
 abbrev pub with_passed : ℕ → Supplement → Supplement
-with_passed n x =
-    record {
-      clock = x.clock;
-      identity = x.identity;
-      identity_length = x.identity_length;
-      request = x.request;
-      request_length = x.request_length;
-      tag = x.tag;
-      check = x.check;
-      passed = n;
-    }
+with_passed n x = record x { passed = n }
 
 -- one part set; of a record that is too long the length is kept, so that it is out of form
 abbrev pub with_part : Part → List ℕ → Supplement → Supplement
-with_part Clock v x = with_clock (fitted 16 v) x
-with_part Identity v x = with_identity (padded 128 v) (length v) x
-with_part LoadRequest v x = with_request (padded 700 v) (length v) x
-with_part Tag v x = with_tag (fitted 48 v) x
-with_part Check v x = with_check (fitted 6 v) x
+with_part Clock v x = record x { clock = fitted 16 v }
+with_part Identity v x = record x { identity = padded 128 v; identity_length = length v }
+with_part LoadRequest v x = record x { request = padded 700 v; request_length = length v }
+with_part Tag v x = record x { tag = fitted 48 v }
+with_part Check v x = record x { check = fitted 6 v }
 
 -- tag 48 zeros, check value 000000, check passed; clock and records still to be set
 unfoldable pub blank : Supplement

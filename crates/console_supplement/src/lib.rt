@@ -8,49 +8,22 @@ ghost use Rattle.console_supplement.specs.Parts.{fitted, with_part, with_passed,
 use console_verbs::Part;
 use row_types::Supplement;
 
-fn sixteen(v: &[u8]) -> [u8; 16]
-    ensures { result ≡ fitted 16 v.now }
+// Bytes that fill their place; where they do not, zeros.
+#[tactic(auto, unfolding(crate::specs::Parts::fitted))]
+fn fitted<const N: usize>(v: &[u8]) -> [u8; N]
+    ensures { result ≡ fitted N v.now }
 {
-    let mut space = [0u8; 16];
-    if v.len() == 16 {
-        byte_strings::put(&mut space, 0, v);
-    }
-    space
+    <[u8; N]>::try_from(v).unwrap_or([0; N])
 }
 
-fn forty_eight(v: &[u8]) -> [u8; 48]
-    ensures { result ≡ fitted 48 v.now }
+// What fits of the bytes into their place, with zeros after it.
+#[tactic(auto, unfolding(row_types::specs::Lists::padded))]
+fn padded<const N: usize>(v: &[u8]) -> [u8; N]
+    ensures { result ≡ padded N v.now }
 {
-    let mut space = [0u8; 48];
-    if v.len() == 48 {
-        byte_strings::put(&mut space, 0, v);
-    }
-    space
-}
-
-fn six(v: &[u8]) -> [u8; 6]
-    ensures { result ≡ fitted 6 v.now }
-{
-    let mut space = [0u8; 6];
-    if v.len() == 6 {
-        byte_strings::put(&mut space, 0, v);
-    }
-    space
-}
-
-fn identity_space(v: &[u8]) -> [u8; 128]
-    ensures { result ≡ padded 128 v.now }
-{
-    let mut space = [0u8; 128];
-    byte_strings::put(&mut space, 0, byte_strings::front(v, 128));
-    space
-}
-
-fn request_space(v: &[u8]) -> [u8; 700]
-    ensures { result ≡ padded 700 v.now }
-{
-    let mut space = [0u8; 700];
-    byte_strings::put(&mut space, 0, byte_strings::front(v, 700));
+    let mut space = [0; N];
+    let front = byte_strings::front(v, N);
+    space[..front.len()].copy_from_slice(front);
     space
 }
 
@@ -58,35 +31,29 @@ fn request_space(v: &[u8]) -> [u8; 700]
 pub fn set_part(supplement: Supplement, part: Part, value: &[u8]) -> Supplement
     ensures { result ≡ with_part part value.now supplement }
 {
-    let mut y = supplement;
     match part {
-        Part::Clock => {
-            let clock = sixteen(value);
-            y.clock = clock;
-            y
-        }
-        Part::Identity => {
-            let identity = identity_space(value);
-            y.identity = identity;
-            y.identity_length = value.len();
-            y
-        }
-        Part::LoadRequest => {
-            let request = request_space(value);
-            y.request = request;
-            y.request_length = value.len();
-            y
-        }
-        Part::Tag => {
-            let tag = forty_eight(value);
-            y.tag = tag;
-            y
-        }
-        Part::Check => {
-            let check = six(value);
-            y.check = check;
-            y
-        }
+        Part::Clock => Supplement {
+            clock: fitted(value),
+            ..supplement
+        },
+        Part::Identity => Supplement {
+            identity: padded(value),
+            identity_length: value.len(),
+            ..supplement
+        },
+        Part::LoadRequest => Supplement {
+            request: padded(value),
+            request_length: value.len(),
+            ..supplement
+        },
+        Part::Tag => Supplement {
+            tag: fitted(value),
+            ..supplement
+        },
+        Part::Check => Supplement {
+            check: fitted(value),
+            ..supplement
+        },
     }
 }
 
@@ -94,11 +61,13 @@ pub fn set_part(supplement: Supplement, part: Part, value: &[u8]) -> Supplement
 pub fn set_passed(supplement: Supplement, passed: u8) -> Supplement
     ensures { result ≡ with_passed passed supplement }
 {
-    let mut y = supplement;
-    y.passed = passed;
-    y
+    Supplement {
+        passed,
+        ..supplement
+    }
 }
 
+#[tactic(auto, unfolding(crate::specs::Parts::blank))]
 fn blank() -> Supplement
     ensures { result ≡ blank }
 {
@@ -115,6 +84,7 @@ fn blank() -> Supplement
 }
 
 // The supplement at the start.
+#[tactic(auto, unfolding(crate::specs::Parts::start_supplement))]
 pub fn start_supplement() -> Supplement
     ensures { result ≡ start_supplement }
 {

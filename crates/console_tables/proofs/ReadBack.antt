@@ -93,7 +93,6 @@ module _ (k b : ℕ) (q : List ℕ) where
     byte_back = ap decimal byte_word ∙ written_reads b (omega arith)
 
     byte_there : has_byte (numbered k b q) ≡ true
-    unfolding has_byte
     byte_there = rw byte_word (written_in 2 0 255 b (omega arith) (omega arith) (omega arith) (omega arith))
 
 -- NAME FINGERPRINT TVP of a row
@@ -118,7 +117,6 @@ module _ (r : SlotRow) (c : Filled 40 r.kmcid) (f : Filled 16 r.fingerprint) (t 
   tvp_word = ap rest second ∙ after_it (digits_of r.fingerprint) (digits_of r.tvp) (plain 16 r.fingerprint f)
 
   fields_accepted : is_slot_row (fields r) ≡ true
-  unfolding is_slot_row
   fields_accepted = rw (name_word, fingerprint_word, tvp_word, in_hex 40 r.kmcid c 80 refl, in_hex 16 r.fingerprint f 32 refl, in_hex 16 r.tvp t 32 refl)
 
   fields_back : slot_of r.state (fields r) ≡ r
@@ -128,7 +126,6 @@ module _ (r : SlotRow) (c : Filled 40 r.kmcid) (f : Filled 16 r.fingerprint) (t 
   -- THE LAWS: they are in form,
   module _ (k : ℕ) (h : k < 8) (s : r.state < 256) where
     pub slot_accepted : is_slot (slot_words k r) ≡ true
-    unfolding is_slot
     slot_accepted = rw (row_word k r.state (fields r), written_in 0 1 8 (k + 1) (omega arith) (omega arith) (omega arith) (omega arith), byte_there k r.state (fields r) s, after_byte k r.state (fields r), fields_accepted)
 
     -- name the place, and set the row;
@@ -149,7 +146,6 @@ module _ (r : RegisterRow) (c : Filled 256 r.card) where
 
   module _ (k : ℕ) (h : k < 32) (s : r.mark < 256) where
     pub register_accepted : is_register (register_words k r) ≡ true
-    unfolding is_register
     register_accepted = rw (row_word k r.mark (digits_of r.card), written_in 1 1 32 (k + 1) (omega arith) (omega arith) (omega arith) (omega arith), byte_there k r.mark (digits_of r.card) s, after_byte k r.mark (digits_of r.card), in_hex 256 r.card c 512 refl)
 
     pub register_place : decimal (word (register_words k r)) - 1 ≡ k

@@ -36,19 +36,7 @@ empty_tables slot_count register_count =
 
 -- a row in place k, counted from 0
 unfoldable pub with_slot : ℕ → SlotRow → Tables → Tables
-with_slot k row t =
-    record {
-      slots = set t.slots k row;
-      registers = t.registers;
-      slot_count = t.slot_count;
-      register_count = t.register_count;
-    }
+with_slot k row t = record t { slots = set t.slots k row }
 
 unfoldable pub with_register : ℕ → RegisterRow → Tables → Tables
-with_register k row t =
-    record {
-      slots = t.slots;
-      registers = set t.registers k row;
-      slot_count = t.slot_count;
-      register_count = t.register_count;
-    }
+with_register k row t = record t { registers = set t.registers k row }

@@ -1,37 +1,34 @@
 -- The first words of lines.
-use Rattle.std.specs.Prelude.{ℕ, cond, List, [], ◌∷◌}
+use Rattle.std.specs.Prelude.{ℕ, List, [], ◌∷◌, Option, bytes_eq}
+use Rattle.std.specs.List.{find}
 use Rattle.byte_strings.specs.Texts.{text}
-use Rattle.byte_strings.specs.Strings.{same_bytes}
-use Rattle.row_types.specs.Lists.{trimmed}
 use Rattle.console_verbs.specs.declared.Part.TheVariants.{Clock, Identity, LoadRequest, Tag, Check}
 use Rattle.console_verbs.specs.declared.Verb.{Verb}
 use Rattle.console_verbs.specs.declared.Verb.TheVariants.{Tables, Buffer, Set, Passed, Send, Raw, Slot, Register}
-use Rattle.console_verbs.specs.declared.Verb.TheVariants.{Rows, Usable, Show, Unknown}
-use Rattle.console_verbs.specs.declared.Named.{Named}
+use Rattle.console_verbs.specs.declared.Verb.TheVariants.{Rows, Usable, Show}
 
-unfoldable pub verbs : List Named
+abbrev pub word_of : Verb → List ℕ
+word_of Tables = text "tables"
+word_of Buffer = text "buffer"
+word_of (Set Clock) = text "clock"
+word_of (Set Identity) = text "identity"
+word_of (Set LoadRequest) = text "loadreq"
+word_of (Set Tag) = text "tag"
+word_of (Set Check) = text "check"
+word_of Passed = text "passed"
+word_of Send = text "send"
+word_of Raw = text "raw"
+word_of Slot = text "slot"
+word_of Register = text "register"
+word_of Rows = text "rows"
+word_of Usable = text "usable"
+word_of Show = text "show"
+
+unfoldable pub verbs : List Verb
 verbs =
-    (Tables, text "tables\0\0")
-    ∷ (Buffer, text "buffer\0\0")
-    ∷ (Set Clock, text "clock\0\0\0")
-    ∷ (Set Identity, text "identity")
-    ∷ (Set LoadRequest, text "loadreq\0")
-    ∷ (Set Tag, text "tag\0\0\0\0\0")
-    ∷ (Set Check, text "check\0\0\0")
-    ∷ (Passed, text "passed\0\0")
-    ∷ (Send, text "send\0\0\0\0")
-    ∷ (Raw, text "raw\0\0\0\0\0")
-    ∷ (Slot, text "slot\0\0\0\0")
-    ∷ (Register, text "register")
-    ∷ (Rows, text "rows\0\0\0\0")
-    ∷ (Usable, text "usable\0\0")
-    ∷ (Show, text "show\0\0\0\0")
-    ∷ []
+    Tables ∷ Buffer ∷ Set Clock ∷ Set Identity ∷ Set LoadRequest ∷ Set Tag ∷ Set Check ∷ Passed ∷ Send ∷ Raw ∷ Slot
+    ∷ Register ∷ Rows ∷ Usable ∷ Show ∷ []
 
--- the verb of a word, of those listed
-abbrev pub named : List Named → List ℕ → Verb
-named [] w = Unknown
-named (e ∷ es) w = cond (same_bytes w (trimmed e.1)) e.0 (named es w)
-
-unfoldable pub verb_of : List ℕ → Verb
-verb_of w = named verbs w
+-- the verb that a word names
+unfoldable pub verb_of : List ℕ → Option Verb
+verb_of w = find (λ v. bytes_eq w (word_of v)) verbs

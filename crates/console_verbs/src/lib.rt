@@ -1,8 +1,8 @@
 // What the first word of a line of the console names (docs/CONSOLE.md).
 #![tactic(auto)]
 
-ghost use Rattle.std.specs.Prelude.{◌≡◌, ◌∷◌, ◌+◌, ◌<◌, drop};
-ghost use Rattle.console_verbs.specs.Verbs.{verbs, verb_of};
+ghost use Rattle.std.specs.Prelude.{◌≡◌};
+ghost use Rattle.console_verbs.specs.Verbs.{word_of, verb_of};
 
 // The parts of the supplement that a line can set.
 #[derive(Clone, Copy)]
@@ -14,7 +14,7 @@ pub enum Part {
     Check,
 }
 
-// The first words that there are, and what is none of them.
+// The first words that there are.
 #[derive(Clone, Copy)]
 pub enum Verb {
     Tables,
@@ -28,50 +28,52 @@ pub enum Verb {
     Rows,
     Usable,
     Show,
-    Unknown,
 }
 
-// A first word in eight bytes, zero after its end.
-#[derive(Clone, Copy)]
-pub struct Named(pub Verb, pub [u8; 8]);
-
-const VERBS: [Named; 15] = [
-    Named(Verb::Tables, *b"tables\0\0"),
-    Named(Verb::Buffer, *b"buffer\0\0"),
-    Named(Verb::Set(Part::Clock), *b"clock\0\0\0"),
-    Named(Verb::Set(Part::Identity), *b"identity"),
-    Named(Verb::Set(Part::LoadRequest), *b"loadreq\0"),
-    Named(Verb::Set(Part::Tag), *b"tag\0\0\0\0\0"),
-    Named(Verb::Set(Part::Check), *b"check\0\0\0"),
-    Named(Verb::Passed, *b"passed\0\0"),
-    Named(Verb::Send, *b"send\0\0\0\0"),
-    Named(Verb::Raw, *b"raw\0\0\0\0\0"),
-    Named(Verb::Slot, *b"slot\0\0\0\0"),
-    Named(Verb::Register, *b"register"),
-    Named(Verb::Rows, *b"rows\0\0\0\0"),
-    Named(Verb::Usable, *b"usable\0\0"),
-    Named(Verb::Show, *b"show\0\0\0\0"),
+const VERBS: [Verb; 15] = [
+    Verb::Tables,
+    Verb::Buffer,
+    Verb::Set(Part::Clock),
+    Verb::Set(Part::Identity),
+    Verb::Set(Part::LoadRequest),
+    Verb::Set(Part::Tag),
+    Verb::Set(Part::Check),
+    Verb::Passed,
+    Verb::Send,
+    Verb::Raw,
+    Verb::Slot,
+    Verb::Register,
+    Verb::Rows,
+    Verb::Usable,
+    Verb::Show,
 ];
 
-fn verb_at(k: usize) -> Named
-    requires { k < 15 }
-    ensures { drop k verbs ≡ result ∷ drop (k + 1) verbs }
+// The word that names a verb.
+fn word_of(verb: Verb) -> &'static [u8]
+    ensures { result.now ≡ word_of verb }
 {
-    VERBS[k]
+    match verb {
+        Verb::Tables => b"tables",
+        Verb::Buffer => b"buffer",
+        Verb::Set(Part::Clock) => b"clock",
+        Verb::Set(Part::Identity) => b"identity",
+        Verb::Set(Part::LoadRequest) => b"loadreq",
+        Verb::Set(Part::Tag) => b"tag",
+        Verb::Set(Part::Check) => b"check",
+        Verb::Passed => b"passed",
+        Verb::Send => b"send",
+        Verb::Raw => b"raw",
+        Verb::Slot => b"slot",
+        Verb::Register => b"register",
+        Verb::Rows => b"rows",
+        Verb::Usable => b"usable",
+        Verb::Show => b"show",
+    }
 }
 
-// The verb that a word names.
-pub fn verb_of(word: &[u8]) -> Verb
+// The verb that a word names; none where there is no such verb.
+pub fn verb_of(word: &[u8]) -> Option<Verb>
     ensures { result ≡ verb_of word.now }
 {
-    let mut k = 0;
-    while k < 15 {
-        let e = verb_at(k);
-        let name = e.1;
-        if byte_strings::same_bytes(word, slot_tests::trimmed(&name)) {
-            return e.0;
-        }
-        k += 1;
-    }
-    Verb::Unknown
+    VERBS.iter().find(|verb| word == word_of(**verb)).copied()
 }

@@ -1,31 +1,31 @@
 // The words of a line of the console (docs/CONSOLE.md), split by one space.
-#![tactic(auto)]
+#![tactic(auto, unfolding(crate::specs::Words::word, crate::specs::Words::rest, crate::specs::Words::has_rest))]
 
 ghost use Rattle.std.specs.Prelude.{◌≡◌};
 ghost use Rattle.console_words.specs.Words.{word, rest, has_rest};
 
 // The first word.
-pub fn word<'a>(line: &'a [u8]) -> &'a [u8]
+pub fn word(line: &[u8]) -> &[u8]
     ensures { result.now ≡ word line.now }
 {
-    let end = byte_pieces::piece_end(line, 0, b' ');
-    &line[0..end]
+    &line[..byte_spans::until(line, b' ')]
 }
 
 // What stands after the first space; nothing where there is none.
-pub fn rest<'a>(line: &'a [u8]) -> &'a [u8]
+pub fn rest(line: &[u8]) -> &[u8]
     ensures { result.now ≡ rest line.now }
 {
-    let space = byte_pieces::piece_end(line, 0, b' ');
-    if line.len() <= space {
-        return &line[0..0];
+    let space = byte_spans::until(line, b' ');
+    if space < line.len() {
+        &line[space + 1..]
+    } else {
+        &[]
     }
-    &line[space + 1..]
 }
 
 // Whether there is a space.
 pub fn has_rest(line: &[u8]) -> bool
     ensures { result ≡ has_rest line.now }
 {
-    byte_pieces::piece_end(line, 0, b' ') < line.len()
+    byte_spans::until(line, b' ') < line.len()
 }
