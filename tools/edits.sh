@@ -75,9 +75,9 @@ hold_line() {
         *) complain "$line"; return ;;
     esac
     if is_misfit "$line"; then complain "no fact: ${line#*: error: }"; fi
-    [[ ${kinds[*]} != *law* && $line =~ proofs/([+]?[a-z0-9_]+)/ ]] || return 0
-    for name in "${names[@]}"; do [ "${BASH_REMATCH[1]#+}" != "$name" ] || return 0; done
-    complain "it means ${names[*]}, and first ${BASH_REMATCH[1]} is refused"
+    [[ ${kinds[*]} != *law* && $line =~ proofs/(fn/)?([+]?[a-z0-9_]+)/ ]] || return 0
+    for name in "${names[@]}"; do [ "${BASH_REMATCH[2]#+}" != "$name" ] || return 0; done
+    complain "it means ${names[*]}, and first ${BASH_REMATCH[2]} is refused"
 }
 
 # A tree of one crate and one edit, whose headings are $1; its log is standard input.
@@ -99,7 +99,9 @@ try_lines() {
     forge '# f: why' <<<"$is"; passes 'a wrong answer that is refused with no file'
     forge '# law l: why' <<<"$is: $law"; passes 'a law that is broken'
     forge '# law l: why' <<<"$is: ${law/Laws/g/Proof}"; passes 'a law that is broken where it is used'
+    forge '# f: why' <<<"$is: ${at/proofs\/f/proofs\/fn\/f\/fold}"; passes 'a closure of the function'
     forge '# g: why' <<<"$is: $at"; finds 'another function'
+    forge '# g: why' <<<"$is: ${at/proofs\/f/proofs\/fn\/f\/fold}"; finds 'a closure of another function'
     forge '# f: why' <<<"$is: ${at/no proof of/is checked against}"; finds 'a misfit of shape'
     forge '# f: why' <<<"$is (only because a proof file names what is gone): $at"; finds 'a missing name'
     forge '# f: why' <<<"$is (only by a limit of the prover): $at"; finds 'a limit'
