@@ -1,5 +1,5 @@
-# Prints the divisions in files of Rattle, a line each: file:line, a tab, and the literal by which is divided, or -
-# where it is no literal alone or a function divides. Comments, `ghost use` items, contract text and texts are no
+# Prints the divisions in files of Rattle, a line each: file:line, a tab, and the literal or the name in capitals by
+# which is divided, or - where it is neither alone or a function divides. Comments, `ghost use` items, contract text and texts are no
 # source. It fails where the end of a file is inside of one of these.
 
 # What is source of a line. The state `within` is the pattern of what ends a text or a `ghost use`, and `open` counts the
@@ -41,7 +41,7 @@ function ahead(rest, line) {
 }
 
 function divisor(sign, rest,    literal) {
-    if (!match(rest, /^(0x[0-9A-Fa-f_]+|[0-9][0-9_]*)/)) return "-"
+    if (!match(rest, /^(0x[0-9A-Fa-f_]+|[0-9][0-9_]*|[A-Z][A-Z0-9_]*)/)) return "-"
     literal = substr(rest, 1, RLENGTH)
     rest = substr(rest, RLENGTH + 1)
     if (rest ~ /^[A-Za-z0-9_]/) return "-"

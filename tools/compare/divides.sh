@@ -49,6 +49,28 @@ is_power() {
     [ "$(printf "$form" "$value")" = "$digits" ] && ((!(value & (value - 1))))
 }
 
+# Whether the name $2, by which is divided at the place $1, is a const parameter of the function there, and each mention
+# of that function in the source that is reached gives it a power of two. There must be one.
+is_parameter() {
+    local file=${1%:*} line=${1##*:} name calls call i n=-1
+    local -a parameters arguments
+    [[ $2 =~ ^[A-Z] ]] || return 1
+    [[ $(sed 's,//.*,,' "$file" | head -n "$line" | grep -E '\bfn [a-z]' | tail -n 1) =~ fn\ ([a-z0-9_]+)\<([^\>]*)\>\( ]] ||
+        return 1
+    name=${BASH_REMATCH[1]}
+    IFS=, read -ra parameters <<< "${BASH_REMATCH[2]}"
+    for i in "${!parameters[@]}"; do
+        if [[ ${parameters[i]} =~ ^\ *const\ $2: ]]; then n=$i; fi
+    done
+    [ "$n" -ge 0 ] || return 1
+    calls=$(sed -E "s,//.*,,; s,\bfn $name\b,," "${files[@]}" | grep -oE "\b$name\b(::<[^>]*>)?") || return 1
+    while read -r call; do
+        [[ $call =~ ::\<(.*)\>$ ]] || return 1
+        IFS=, read -ra arguments <<< "${BASH_REMATCH[1]}"
+        is_power "${arguments[n]// /}" || return 1
+    done <<< "$calls"
+}
+
 # Prints each line of source that the entry points of the tree $1 reach and that divides by anything else, and fails if
 # there is one.
 sound_source() {
@@ -57,7 +79,7 @@ sound_source() {
     mapfile -t files < "$work/sources"
     awk -f tools/compare/divides.awk "${files[@]}" > "$work/divisions" || return 1
     while IFS=$'\t' read -r place literal; do
-        is_power "$literal" || echo "$place: $(sed -n "${place##*:}s/^ *//p" "${place%:*}")"
+        is_power "$literal" || is_parameter "$place" "$literal" || echo "$place: $(sed -n "${place##*:}s/^ *//p" "${place%:*}")"
     done < "$work/divisions" | uniq > "$work/found"
     cat "$work/found"
     [ ! -s "$work/found" ]
@@ -142,6 +164,16 @@ for each in "${wrong[@]}"; do finds "$each"; done
 for each in "${right[@]}"; do passes "$each"; done
 finds $'let a = n /\n    // of ten\n    10;' 1
 finds $'let a = n\n    / 8\n        .max(m);' 2
+
+# A const parameter, by what each call gives it.
+divided='fn f<const M: u64, const N: u64>(n: u64) -> u64 { n / N % M }'
+passes "$divided"$'\nfn g(n: u64) -> u64 { f::<2, 8>(n) + f::<16, 256>(n) }'
+finds "$divided" 1
+finds "$divided"$'\nfn g(n: u64) -> u64 { f::<2, 8>(n) + f::<2, 10>(n) }' 1
+finds "$divided"$'\nfn g(n: u64) -> u64 { f::<10, 8>(n) }' 1
+finds "$divided"$'\nfn g(n: u64) -> u64 { f::<2, 8>(n) + f(n) }' 1
+finds "$divided"$'\nfn g<const N: u64>(n: u64) -> u64 { f::<2, N>(n) }' 1
+finds $'fn g(n: u64) -> u64 { f::<8>(n) }\nfn f<const M: u64>(n: u64) -> u64 { n / N }'
 
 # The tree as it stands must be found wrong, in the words $1.
 finds_tree() {
