@@ -24,17 +24,17 @@ compiles() {
 # The table of the refusals, a line each: number, name and form with its bytes.
 table() {
     sed -nE 's/^ *Refusal::(\w+) => Entry\(([0-9]+), ReplyForm::(\w+)(\((.*)\))?\),$/\2 \1 \3 \5/p' \
-        crates/response_numbers/src/lib.rt | sed -E "s/b'(.)',?/\\1/g"
+        crates/response_numbers/src/lib.rt | sed -E "s/b'(.)'/\\1/; s/\\*b\"(..)\"/\\1/"
 }
 
 # The refusals by the names of the header, a line each: number, name, status and string, - where there is none.
 refusals() {
-    local number name form a b
-    while read -r number name form a b; do
+    local number name form a
+    while read -r number name form a; do
         name=$(sed -E 's/([a-z])([A-Z])/\1_\2/g' <<< "$name")
         case $form in
             Nothing) a='- -' ;;
-            Status) a="$a$b -" ;;
+            Status) a="$a -" ;;
             Numbered) a=$(printf 'EE KM.%02d' "$number") ;;
             Module) a="EE SM.3B.$a" ;;
         esac
