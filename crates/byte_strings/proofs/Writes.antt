@@ -5,8 +5,7 @@ use Prim.Native.Nat.{ℕ, suc, ◌+◌, ◌-◌, ◌≤◌}
 use native.Mathlib.Nat.{add-zero, add-suc, suc-add, zero-add}
 use native.Mathlib.Omega.{arith}
 use lib.ListN.{length, take, drop, set, length-append}
-use lib.Seq.{drop-drop, sets, sets-eq, length-take-le, drop_at, take_at}
-use borrow.Rule.Slice.PartMut.{put_mid}
+use lib.Seq.{sets, sets-eq, length-take-le, drop_at, take_at}
 use Rattle.byte_strings.specs.Wrote.{Wrote}
 
 -- two runs of stores, one after the other, are one
@@ -53,9 +52,3 @@ written_part {d} {e} {p} {a} {b} w h =
     ap (λ (x : List ℕ). take (b - a) (drop a x)) w.bytes
     ∙ ap (take (b - a)) (drop_sets d a p (omega (arith, w.next)))
     ∙ take_at p (drop (a + length p) d) (b - a) n
-
--- a part overwritten by a piece of its length
-pub part_written : (d : List ℕ) (a : ℕ) (p q : List ℕ) → a + length p ≤ length d → q ≡ p → Wrote d a p (put_mid a (a + length p - a) d q) (a + length p)
-part_written d a p q h e =
-    let k : a + (a + length p - a) ≡ a + length p = omega arith in
-    record { next = refl; bytes = rw (e, sets-eq p d a h) (simp (append_assoc, drop-drop, k)) }

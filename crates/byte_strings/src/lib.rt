@@ -15,14 +15,14 @@ pub fn put_byte(dst: &mut [u8], at: usize, byte: u8) -> usize
 }
 
 // Writes all of src, and answers the place after it.
-#[tactic(auto, using(crate::proofs::Writes::part_written))]
 pub fn put(dst: &mut [u8], at: usize, src: &[u8]) -> usize
     requires { at + length src.now ≤ length dst.old }
     ensures { Writes dst at src.now result }
 {
-    let end = at + src.len();
-    dst[at..end].copy_from_slice(src);
-    end
+    for (i, byte) in src.iter().enumerate() {
+        dst[at + i] = *byte;
+    }
+    at + src.len()
 }
 
 // Whether two byte strings are the same.

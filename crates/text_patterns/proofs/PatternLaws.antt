@@ -5,11 +5,10 @@ use mathlib.Core.List.{List, [], ◌∷◌, ◌++◌}
 use Prim.Native.Nat.{ℕ, zero, suc, ◌+◌, ◌-◌, ◌≤◌}
 use native.Mathlib.Omega.{arith}
 use lib.Dec.{eqb, leb}
-use lib.ListN.{length-drop, length, take, drop, replicate}
+use lib.ListN.{length-drop, length-take, length, take, drop, replicate}
 use borrow.Author.Tests.{ne_eqb, le-leb, eqb-true}
 use Rattle.std.specs.List.{fold, zip}
 use Rattle.byte_strings.specs.Strings.{all_of}
-use Rattle.byte_strings.proofs.StringLaws.{rest}
 use Rattle.byte_strings.proofs.Flags.{nope, and_second}
 use Rattle.text_classes.specs.Classes.{within, is_of}
 use Rattle.text_classes.specs.declared.Class.TheVariants.{Digit, Hexadecimal}
@@ -75,5 +74,8 @@ folded [] s so l = sym (and-true so)
 folded (x ∷ p) [] so l = absurd (omega arith)
 folded (x ∷ p) (b ∷ s) so l = folded p s (so && fits_byte x b) (omega arith) ∙ and_assoc so (fits_byte x b) (fits p s)
 
-pub all_fit : (p s : List ℕ) (at : ℕ) (x : Bool) → at + length p ≤ length s → x ≡ fold (λ good (q : ℕ × ℕ). good && fits_byte q.0 q.1) true (zip p (take (length s - at) (drop at s))) → x ≡ fits p (drop at s)
-all_fit p s at x l e = rw rest at e ∙ folded p (drop at s) true (omega (arith, length-drop at s))
+pub all_fit : (p s : List ℕ) (at : ℕ) (x : Bool) → at + length p ≤ length s → x ≡ fold (λ good (q : ℕ × ℕ). good && fits_byte q.0 q.1) true (zip p (take (at + length p - at) (drop at s))) → x ≡ fits p (drop at s)
+all_fit p s at x l e =
+    let n : at + length p - at ≡ length p = omega arith in
+    let m : length p ≤ length (take (length p) (drop at s)) = omega (arith, length-take (length p) (drop at s), length-drop at s) in
+    rw n at e ∙ folded p (take (length p) (drop at s)) true m ∙ fits_front p (drop at s)

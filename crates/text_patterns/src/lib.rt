@@ -30,5 +30,5 @@ pub fn fits(bytes: &[u8], at: usize, pattern: &[u8]) -> bool
     requires { at + length pattern.now ≤ length bytes.now }
     ensures { result ≡ fits pattern.now (drop at bytes.now) }
 {
-    fit(pattern, &bytes[at..])
+    fit(pattern, &bytes[at..at + pattern.len()])
 }
