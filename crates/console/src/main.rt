@@ -38,13 +38,17 @@ impl Session {
         Ok(())
     }
 
-    // Takes each line that ends in what was read, and keeps what follows the last.
+    // Takes each line that ends in what was read, and keeps what follows the last. A line feed is looked for many bytes
+    // at a time.
     fn take_lines(&mut self, rt: &impl Print, read: &[u8]) -> io::Result<()> {
-        for (line_feeds, piece) in read.split(|b| *b == b'\n').enumerate() {
-            if 0 < line_feeds {
+        let mut at = 0;
+        while at < read.len() {
+            let end = byte_pieces::piece_end(read, at, b'\n');
+            self.add(&read[at..end]);
+            if end < read.len() {
                 self.take_line(rt)?;
             }
-            self.add(piece);
+            at = end + 1;
         }
         Ok(())
     }

@@ -65,7 +65,6 @@ pub fn start() -> Console
 pub fn set_by(console: Console, line: Line, rest: &[u8]) -> Console
     ensures { result ≡ set_by console line rest.now }
 {
-    let digits = console_words::rest(console_words::rest(rest));
     match line {
         Line::Tables {
             slot_count,
@@ -84,10 +83,12 @@ pub fn set_by(console: Console, line: Line, rest: &[u8]) -> Console
             console_supplement::set_passed(console.supplement, passed),
         ),
         Line::Slot { row, state } => {
+            let digits = console_words::rest(console_words::rest(rest));
             let slot = console_tables::slot_of(state, digits);
             with_tables(console, console_tables::set_slot(console.tables, row, slot))
         }
         Line::Register { row, mark } => {
+            let digits = console_words::rest(console_words::rest(rest));
             let register = console_tables::register_of(mark, digits);
             with_tables(
                 console,
