@@ -1,13 +1,15 @@
 -- What the steps of the builder come to.
-use mathlib.Core.Path.{◌≡◌, sym, ap, ◌∙◌}
+use mathlib.Core.Path.{◌≡◌, refl, sym, ap, ◌∙◌}
 use mathlib.Core.List.{List, [], ◌∷◌, ◌++◌, append_assoc, map}
 use Prim.Native.Nat.{ℕ, ◌+◌, ◌-◌, ◌≤◌, ◌<◌}
 use native.Mathlib.Numerals.{add-one}
 use native.Mathlib.Omega.{arith}
 use lib.ListN.{length, get_or, take, drop, length-append, length-map}
 use lib.Seq.{sets, drop-cons}
+use Rattle.std.specs.List.{sum_by}
 use Rattle.std.proofs.Common.{Bor}
 use Rattle.std.proofs.lemmas.List.{get_or-map}
+use Rattle.std.proofs.lemmas.List.Sums.{sum_by-cons}
 use Rattle.byte_strings.specs.Wrote.{Wrote}
 use Rattle.byte_pieces.specs.Pieces.{joined}
 use Rattle.byte_strings.proofs.Writes.{then, sets_append, written_part}
@@ -49,6 +51,11 @@ module _ (x : ℕ) (bs : List (Bor (List ℕ))) (b : Bor (List ℕ)) (d₀ : Lis
           bytes = rw (p.bytes, p.next, sets_append, q) w.bytes;
         }
 
+-- how many bytes fields take, each with its delimiter
+its_fields : (x : ℕ) (bs : List (Bor (List ℕ))) → length (joined x (map (λ f. f.now) bs)) ≡ sum_by (λ f. length f.now + 1) bs
+its_fields x [] = refl
+its_fields x (b ∷ bs) = rw (length-append, its_fields x bs, sum_by-cons (λ (f : Bor (List ℕ)). length f.now + 1) b bs) (omega arith)
+
 -- put_record: the check value of type and fields behind them makes the record
 module _ (x : ℕ) (kind : List ℕ) (fs : List (List ℕ)) (d : List ℕ) (a : ℕ) (h : a + length (record_bytes kind x fs) ≤ length d) where
   its_length : length (record_bytes kind x fs) ≡ length kind + 1 + length (joined x fs) + 4
@@ -73,3 +80,7 @@ module _ (x : ℕ) (kind : List ℕ) (fs : List (List ℕ)) (d : List ℕ) (a : 
       record_written g r w =
           let t : Wrote d a (joined x (kind ∷ fs)) f c = rw append_assoc at (then p q) in
           then t (rw (written_part t (omega (arith, sum_room.1))) at w)
+
+-- and how long the record is
+pub record_short : (x : ℕ) (kind : List ℕ) (bs : List (Bor (List ℕ))) (d g : List ℕ) (a r : ℕ) → a + length (record_bytes kind x (map (λ f. f.now) bs)) ≤ length d → Wrote d a (record_bytes kind x (map (λ f. f.now) bs)) g r → r ≡ a + length kind + sum_by (λ f. length f.now + 1) bs + 5
+record_short x kind bs d g a r h w = omega (arith, w.next, its_length x kind (map (λ f. f.now) bs) d a h, its_fields x bs)

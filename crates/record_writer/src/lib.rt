@@ -2,7 +2,7 @@
 // "Records").
 #![tactic(auto)]
 
-ghost use Rattle.std.specs.Prelude.{◌≡◌, [], ◌∷◌, ◌+◌, ◌-◌, ◌≤◌, length, map, take, drop};
+ghost use Rattle.std.specs.Prelude.{◌≡◌, [], ◌∷◌, ◌+◌, ◌-◌, ◌≤◌, length, map, sum_by, take, drop};
 ghost use Rattle.byte_strings.specs.Wrote.{Writes};
 ghost use Rattle.byte_pieces.specs.Pieces.{joined};
 ghost use Rattle.check_sums.specs.Checksum.{sum_digits};
@@ -52,7 +52,9 @@ pub fn put_record(
 ) -> usize
     requires { at + length (record_bytes rectype.now delimiter (map (λ f. f.now) fields.now))
         ≤ length dst.old }
-    ensures { Writes dst at (record_bytes rectype.now delimiter (map (λ f. f.now) fields.now)) result }
+    ensures writes { Writes dst at
+        (record_bytes rectype.now delimiter (map (λ f. f.now) fields.now)) result }
+    ensures short { result ≡ at + length rectype.now + sum_by (λ f. length f.now + 1) fields.now + 5 }
 {
     let o = put_field(dst, at, rectype, delimiter);
     let to = put_fields(dst, o, delimiter, fields);
