@@ -22,7 +22,7 @@ use Rattle.byte_strings.proofs.Flags.{and_first}
 use Rattle.byte_strings.proofs.StringLaws.{drop_take}
 
 -- what is shorter than three bytes has no name
-too_short : (p : List ℕ) → length p < 3 → 0 ≡ name_of p
+pub too_short : (p : List ℕ) → length p < 3 → 0 ≡ name_of p
 unfolding name_of
 too_short p h = rw (get_or-eq_default p 0 {n = 2} (omega arith), and-false, and-false)
 
