@@ -15,6 +15,7 @@ reached() {
             calls[caller] = ""
         }
         function note_calls(line) {
+            gsub(/::<[^<>]*>/, "", line)
             while (match(line, /[A-Za-z0-9_:.]+\(/)) {
                 calls[caller] = calls[caller] " " substr(line, RSTART, RLENGTH - 1)
                 line = substr(line, RSTART + RLENGTH)
@@ -36,7 +37,7 @@ reached() {
         FNR == 1 { split(FILENAME, folders, "/"); crate = folders[2] }
         { sub(/\/\/.*/, "") }
         !NF { next }
-        /^(pub )?(extern "C" )?fn / { declare($0) }
+        /^ *(pub )?(extern "C" )?fn / { declare($0) } # a method is indented
         { match($0, /[^ ]/); depth = RSTART }
         left_out && depth > left_out { next }
         !/^ *\| / { left_out = 0 } # a line that starts with a bar goes on with the pattern

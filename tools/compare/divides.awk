@@ -1,6 +1,7 @@
 # Prints the divisions in files of Rattle, a line each: file:line, a tab, and the literal or the name in capitals by
-# which is divided, or - where it is neither alone or a function divides. Comments, `ghost use` items, contract text and texts are no
-# source. It fails where the end of a file is inside of one of these.
+# which is divided, or - where it is neither alone or a function divides. Comments, `ghost use` items, contract text and
+# texts are no source; where `plain` is set, what is left of each line without them is printed instead. It fails where
+# the end of a file is inside of one of these.
 
 # What is source of a line. The state `within` is the pattern of what ends a text or a `ghost use`, and `open` counts the
 # brackets of a clause that are open.
@@ -64,7 +65,7 @@ function look(line,    rest, word, before) {
 
 # Of the file that has been read.
 function look_all(    line) {
-    for (line = 1; line <= count; line++) look(line)
+    for (line = 1; line <= count; line++) if (plain) print lines[line]; else look(line)
     if (within != "" || open) {
         print file ": its end is inside of a text, a contract or a ghost use" > "/dev/stderr"
         bad = 1

@@ -49,25 +49,34 @@ is_power() {
     [ "$(printf "$form" "$value")" = "$digits" ] && ((!(value & (value - 1))))
 }
 
-# Whether the name $2, by which is divided at the place $1, is a const parameter of the function there, and each mention
-# of that function in the source that is reached gives it a power of two. There must be one.
+# Source without comments, contracts and texts, line by line.
+plain() { awk -v plain=yes -f tools/compare/divides.awk "$@"; }
+
+# Whether the name $2, by which is divided at the place $1, is a const parameter of the function there, whose parameters
+# in angle brackets are all numbers, and each mention of that function in the source that is reached gives it a power of
+# two. There must be one. The function starts its line and has not ended before the place, and nothing else in that file
+# may have the name. What a pipe ends in reads all of it: where it stopped, what writes it could be broken off.
 is_parameter() {
-    local file=${1%:*} line=${1##*:} name calls call i n=-1
+    local file=${1%:*} line=${1##*:} head name other calls call i n=-1
     local -a parameters arguments
     [[ $2 =~ ^[A-Z] ]] || return 1
-    [[ $(sed 's,//.*,,' "$file" | head -n "$line" | grep -E '\bfn [a-z]' | tail -n 1) =~ fn\ ([a-z0-9_]+)\<([^\>]*)\>\( ]] ||
-        return 1
-    name=${BASH_REMATCH[1]}
-    IFS=, read -ra parameters <<< "${BASH_REMATCH[2]}"
+    head=$(plain "$file" | sed -n "1,${line}p" | grep -E '\bfn [a-z]|^\}' | tail -n 1)
+    [[ $head != *fn\ *fn\ * ]] || return 1
+    [[ $head =~ ^(pub\ )?fn\ ([a-z0-9_]+)\<([^\>]*)\>\( ]] || return 1
+    name=${BASH_REMATCH[2]}
+    IFS=, read -ra parameters <<< "${BASH_REMATCH[3]}"
     for i in "${!parameters[@]}"; do
-        if [[ ${parameters[i]} =~ ^\ *const\ $2: ]]; then n=$i; fi
+        [[ ${parameters[i]} =~ ^\ *const\ ([A-Z0-9_]+):\ u[a-z0-9]+$ ]] || return 1
+        if [ "${BASH_REMATCH[1]}" = "$2" ]; then n=$i; fi
     done
     [ "$n" -ge 0 ] || return 1
-    calls=$(sed -E "s,//.*,,; s,\bfn $name\b,," "${files[@]}" | grep -oE "\b$name\b(::<[^>]*>)?") || return 1
+    other="\b(const|static|as|let|mut|ref) +$2\b|\b$2 *:[^:]|[|,(] *$2 *[|,)]|\buse [^;]*(\b$2\b|\*)"
+    [ "$(plain "$file" | sed -E 's/^(pub )?fn [a-z0-9_]+<[^>]*>//' | tr '\n' ' ' | grep -cE "$other")" = 0 ] || return 1
+    calls=$(plain "${files[@]}" | sed -E "s/\bfn $name\b//" | grep -oE "\b$name\b(::<[^>]*>)?") || return 1
     while read -r call; do
         [[ $call =~ ::\<(.*)\>$ ]] || return 1
         IFS=, read -ra arguments <<< "${BASH_REMATCH[1]}"
-        is_power "${arguments[n]// /}" || return 1
+        [ "${#arguments[@]}" -eq "${#parameters[@]}" ] && is_power "${arguments[n]// /}" || return 1
     done <<< "$calls"
 }
 
@@ -79,7 +88,8 @@ sound_source() {
     mapfile -t files < "$work/sources"
     awk -f tools/compare/divides.awk "${files[@]}" > "$work/divisions" || return 1
     while IFS=$'\t' read -r place literal; do
-        is_power "$literal" || is_parameter "$place" "$literal" || echo "$place: $(sed -n "${place##*:}s/^ *//p" "${place%:*}")"
+        is_power "$literal" || is_parameter "$place" "$literal" ||
+            echo "$place: $(sed -n "${place##*:}s/^ *//p" "${place%:*}")"
     done < "$work/divisions" | uniq > "$work/found"
     cat "$work/found"
     [ ! -s "$work/found" ]
@@ -174,6 +184,15 @@ finds "$divided"$'\nfn g(n: u64) -> u64 { f::<10, 8>(n) }' 1
 finds "$divided"$'\nfn g(n: u64) -> u64 { f::<2, 8>(n) + f(n) }' 1
 finds "$divided"$'\nfn g<const N: u64>(n: u64) -> u64 { f::<2, N>(n) }' 1
 finds $'fn g(n: u64) -> u64 { f::<8>(n) }\nfn f<const M: u64>(n: u64) -> u64 { n / N }'
+finds $'fn f<const N: u64>(n: u64) -> u64 { n / N }\nfn g(n: u64) -> u64 { f::<8>(n) + g(b"//") + f::<10>(n) }' 1
+finds $'fn f<T, const N: u64>(n: u64) -> u64 { n / N }\nfn g(n: u64) -> u64 { f::<Pair<1, 2>, 10>(n) }' 1
+finds $'fn f<const N: u64>(n: u64) -> u64 { const N: u64 = 10; n / N }\nfn g(n: u64) -> u64 { f::<8>(n) }' 1
+finds $'const N: u64 = 10;\nfn f(n: u64) -> u64 {\n    fn g<const N: u64>() {}\n    g::<8>();\n    n / N\n}' 5
+finds $'fn f(n: u64) -> u64 {\n    let N = n + 3;\n    fn g<const N: u64>() {}\n    g::<8>();\n    n / N\n}' 5
+finds $'use crate::limits::{\n    M,\n    N,\n};\nfn f<const N: u64>(n: u64) -> u64 { n / N }\nfn g(n: u64) -> u64 { f::<8>(n) }' 5
+finds 'fn f<const N: u64>() {} fn h(n: u64, N: u64) -> u64 { f::<8>(); n / N }'
+finds "const N: u64 = 10;"$'\n'"$(printf '// a file of many lines %s\n' {1..400})"$'\n'"fn f<const N: u64>(n: u64) -> u64 { f::<8>(n) + n / N }"
+passes "$divided"$'\n// f::<2, 10>(n)\nfn g(n: u64) -> u64 { f::<2, 8>(n) + h(b"f::<2, 10>") }'
 
 # The tree as it stands must be found wrong, in the words $1.
 finds_tree() {
